@@ -1,0 +1,13 @@
+pub mod Checks
+pub mod PutBit
+pub mod Putting
+pub mod Content
+pub mod Kept
+pub mod Clearing
+pub mod Promised
+pub mod Stack
+pub mod Climb
+pub mod Seek
+pub mod Step
+pub mod Finding
+pub mod Sought

@@ -1,0 +1,7 @@
+pub mod Words
+pub mod Answers
+pub mod Promise
+pub mod Steps
+pub mod Examples
+pub mod Packed
+pub mod Laws

@@ -1,0 +1,264 @@
+-- Document 01's session and finds, and some corners of its rules, by computing from the definitions.
+use mathlib.Core.Path.{_≡_, refl}
+use mathlib.Core.Bool.{Bool, false, true}
+use mathlib.Core.List.{List, [], _∷_, _++_, map}
+use mathlib.Core.Option.{Option, none, some}
+use Prim.Native.Nat.{ℕ, suc}
+use lib.Dec.{eqb}
+use lib.ListN.{replicate, take, drop as rest}
+use Rattle.sequence.specs.Lists.{tabulate}
+use Rattle.places.specs.Places.{lastBelow, wordsRead, size}
+use Rattle.machine.specs.Machine.{Sizes, State, Lent, unstarted, Call, start, mark, drop, touch, look, release, free, translate, read, write, list, Answer, done, old, new, resident, absent, pages, frames, at, bytes, regions, refused, answers, afterAll, step, asked, accepted, sizesOk, isPageSize, enough, startIn, frameIn, firstAbsence, anyOutside, countAbsent, touchAll, stored, untilStart, records}
+
+-- every buffer as long as it may ever have to be
+abbrev all : Lent
+all = record { index = 4161; count = 262144; table = 262144; helper = 262144; stack = 262144; cache = 262144; link = 65536; ram = 4294967296 }
+
+abbrev sizes : ℕ → ℕ → ℕ → ℕ → Sizes
+sizes s n f p = record { spaces = s; pages = n; frames = f; page = p }
+
+-- ---- "One session whole"
+
+abbrev firstTen : List Call
+firstTen =
+    start (sizes 1 8 3 256) all
+    ∷ mark 0 0 all
+    ∷ mark 0 4 all
+    ∷ touch 0 5 all
+    ∷ touch 0 1 all
+    ∷ touch 0 6 all
+    ∷ touch 0 5 all
+    ∷ touch 0 7 all
+    ∷ mark 0 6 all
+    ∷ release 0 4 all
+    ∷ []
+
+abbrev firstTenSay : List Answer
+firstTenSay = done ∷ done ∷ done ∷ new 0 1 ∷ new 1 1 ∷ new 2 1 ∷ old 0 ∷ refused 8 1 ∷ refused 7 0 ∷ pages 2 ∷ []
+
+abbrev session : List Call
+session =
+    firstTen
+    ++ look 0 5 all
+    ∷ touch 0 2 all
+    ∷ look 0 9 all
+    ∷ drop 0 4 all
+    ∷ touch 0 7 all
+    ∷ release 0 0 all
+    ∷ mark 0 0 all
+    ∷ []
+
+abbrev ram : List ℕ
+ram = replicate 768 7
+
+-- the answers from no start made, with every definition open
+played : List Call → List Answer
+unfolding answers step asked accepted sizesOk isPageSize enough size tabulate startIn lastBelow frameIn wordsRead firstAbsence anyOutside countAbsent touchAll stored untilStart records
+played calls = answers (unstarted ram) calls
+
+session-says : played session ≡ firstTenSay ++ absent 1 ∷ new 2 1 ∷ refused 3 0 ∷ done ∷ new 0 1 ∷ pages 3 ∷ refused 6 0 ∷ []
+unfolding played
+session-says = refl
+
+-- "The pool at the end is 0, 2, 1."
+session-pool : afterAll (unstarted ram) session .pool ≡ 0 ∷ 2 ∷ 1 ∷ []
+unfolding afterAll played
+session-pool = refl
+
+-- ---- the table that is proved: the session's first ten lines, and the finds marked (P)
+
+data Shown : Type 0 where
+  line : Answer → Shown
+  found : Option ℕ → ℕ → Shown
+
+abbrev findAt : ℕ → (ℕ → Bool) → ℕ → Shown
+findAt t s p = found (lastBelow s (suc p)) (wordsRead t s p)
+
+no-start : ℕ → Bool
+no-start q = false
+
+table :
+    map line (played firstTen)
+    ++ findAt 64 no-start 5
+    ∷ findAt 4096 (eqb 0) 64
+    ∷ findAt 4097 (eqb 0) 4096
+    ∷ findAt 4096 (eqb 70) 69
+    ∷ findAt 4096 (eqb 70) 128
+    ∷ []
+    ≡ map line firstTenSay
+    ++ found none 1
+    ∷ found (some 0) 3
+    ∷ found (some 0) 5
+    ∷ found none 2
+    ∷ found (some 70) 3
+    ∷ []
+unfolding played no-start
+table = refl
+
+-- ---- corners; each plays from no start made, on a RAM of 7s
+
+abbrev says : List Call → List Answer → Type 0
+says calls expected = played calls ≡ expected
+
+abbrev nothing : Lent
+nothing = record { index = 0; count = 0; table = 0; helper = 0; stack = 0; cache = 0; link = 0; ram = 0 }
+
+-- no start made: 1 for every call but start
+no-start-made : says
+    (mark 0 0 all ∷ drop 0 0 all ∷ touch 0 0 all ∷ look 0 0 all ∷ release 0 0 all ∷ free ∷ translate 0 0 all ∷ read 0 0 0 all ∷ write 0 0 [] all ∷ list 0 9 all ∷ [])
+    (replicate 10 (refused 1 0))
+unfolding played
+no-start-made = refl
+
+-- a refused start keeps the state: S, N, F out of limits, T too large, a page size that is none of the nine, counts too short
+refused-starts : says
+    (start (sizes 1 8 3 256) all
+    ∷ start (sizes 65 8 3 256) all
+    ∷ start (sizes 1 0 3 256) all
+    ∷ start (sizes 1 8 65537 256) all
+    ∷ start (sizes 64 4097 3 256) all
+    ∷ start (sizes 1 8 3 768) all
+    ∷ start (sizes 1 8 3 131072) all
+    ∷ start (sizes 1 8 3 256) nothing
+    ∷ free
+    ∷ [])
+    (done ∷ replicate 7 (refused 1 0) ++ frames 3 ∷ [])
+unfolding played
+refused-starts = refl
+
+-- 1 before 2 before 3; a buffer that a call isn't lent doesn't count
+order : says
+    (start (sizes 1 8 3 256) all
+    ∷ look 1 8 nothing
+    ∷ look 1 8 all
+    ∷ look 0 8 all
+    ∷ look 0 7 (record { index = 1; count = 8; table = 8; helper = 8; stack = 8; cache = 8; link = 0; ram = 0 })
+    ∷ look 0 7 (record { index = 1; count = 8; table = 8; helper = 8; stack = 8; cache = 7; link = 0; ram = 0 })
+    ∷ [])
+    (done ∷ refused 1 0 ∷ refused 2 0 ∷ refused 3 0 ∷ refused 4 1 ∷ refused 1 0 ∷ [])
+unfolding played
+order = refl
+
+-- a mark below all starts cuts nothing, though the region above has a resident page; a mark in that region is refused wherever the page lies
+marks : says
+    (start (sizes 1 8 3 256) all ∷ mark 0 4 all ∷ touch 0 5 all ∷ mark 0 2 all ∷ mark 0 5 all ∷ mark 0 7 all ∷ mark 0 4 all ∷ [])
+    (done ∷ done ∷ new 0 1 ∷ done ∷ refused 7 0 ∷ refused 7 0 ∷ refused 6 0 ∷ [])
+unfolding played
+marks = refl
+
+-- after a drop the pages join the region before, or none
+drops : says
+    (start (sizes 1 8 3 256) all
+    ∷ drop 0 4 all
+    ∷ mark 0 4 all
+    ∷ touch 0 5 all
+    ∷ drop 0 4 all
+    ∷ release 0 4 all
+    ∷ release 0 4 all
+    ∷ release 0 5 all
+    ∷ drop 0 4 all
+    ∷ look 0 5 all
+    ∷ [])
+    (done ∷ refused 5 0 ∷ done ∷ new 0 1 ∷ refused 7 0 ∷ pages 1 ∷ pages 0 ∷ refused 5 0 ∷ done ∷ refused 4 1 ∷ [])
+unfolding played
+drops = refl
+
+-- a find that lands in a lower space counts as it ran, and the page has no region
+lower-space : says
+    (start (sizes 2 64 3 256) all ∷ mark 0 0 all ∷ look 1 0 all ∷ touch 1 0 all ∷ look 0 63 all ∷ mark 1 1 all ∷ touch 1 0 all ∷ touch 1 2 all ∷ look 1 2 all ∷ touch 1 2 all ∷ [])
+    (done ∷ done ∷ refused 4 3 ∷ refused 4 3 ∷ absent 1 ∷ done ∷ refused 4 3 ∷ new 0 1 ∷ resident 0 ∷ old 0 ∷ [])
+unfolding played
+lower-space = refl
+
+-- an empty span is accepted up to N x P and asks for no region; an address must be below N x P
+empty-spans : says
+    (start (sizes 1 2 3 256) all
+    ∷ read 0 0 0 all
+    ∷ read 0 512 0 all
+    ∷ write 0 512 [] all
+    ∷ read 0 513 0 all
+    ∷ write 0 512 (1 ∷ []) all
+    ∷ translate 0 512 all
+    ∷ translate 0 511 all
+    ∷ read 1 0 0 all
+    ∷ [])
+    (done ∷ bytes [] ∷ bytes [] ∷ done ∷ refused 3 0 ∷ refused 3 0 ∷ refused 3 0 ∷ refused 4 0 ∷ refused 2 0 ∷ [])
+unfolding played
+empty-spans = refl
+
+-- a read ends at the first page that isn't resident, with that page's refusal
+reads : says
+    (start (sizes 1 4 3 256) all
+    ∷ mark 0 1 all
+    ∷ touch 0 1 all
+    ∷ read 0 255 3 all
+    ∷ read 0 510 4 all
+    ∷ read 0 510 2 all
+    ∷ translate 0 512 all
+    ∷ translate 0 300 all
+    ∷ [])
+    (done ∷ done ∷ new 0 1 ∷ refused 4 0 ∷ refused 10 0 ∷ bytes (7 ∷ 7 ∷ []) ∷ refused 10 0 ∷ at 44 ∷ [])
+unfolding played
+reads = refl
+
+-- a write is all or nothing: 4 before 8, and 8 by the number of absent pages, of which there may be as many as frames
+writes : says
+    (start (sizes 1 6 2 256) all
+    ∷ mark 0 1 all
+    ∷ write 0 255 (replicate 770 1) all
+    ∷ write 0 511 (replicate 258 1) all
+    ∷ free
+    ∷ look 0 1 all
+    ∷ write 0 767 (8 ∷ 9 ∷ []) all
+    ∷ read 0 766 4 all
+    ∷ translate 0 767 all
+    ∷ touch 0 1 all
+    ∷ release 0 1 all
+    ∷ write 0 600 (5 ∷ []) all
+    ∷ read 0 600 1 all
+    ∷ translate 0 600 all
+    ∷ [])
+    (done
+    ∷ done
+    ∷ refused 4 0
+    ∷ refused 8 0
+    ∷ frames 2
+    ∷ absent 1
+    ∷ done
+    ∷ bytes (7 ∷ 8 ∷ 9 ∷ 7 ∷ [])
+    ∷ at 255
+    ∷ refused 8 1
+    ∷ pages 2
+    ∷ done
+    ∷ bytes (5 ∷ [])
+    ∷ at 344
+    ∷ [])
+unfolding played
+writes = refl
+
+-- list, with room for every region or not; pages below the first start are in no record
+lists : says
+    (start (sizes 2 8 3 256) all
+    ∷ list 1 0 all
+    ∷ mark 1 2 all
+    ∷ mark 1 6 all
+    ∷ touch 1 5 all
+    ∷ touch 1 2 all
+    ∷ list 1 1 all
+    ∷ list 1 2 all
+    ∷ list 0 0 all
+    ∷ list 2 2 all
+    ∷ [])
+    (done
+    ∷ regions []
+    ∷ done
+    ∷ done
+    ∷ new 0 1
+    ∷ new 1 1
+    ∷ refused 11 0
+    ∷ regions (record { start = 2; length = 4; resident = 2 } ∷ record { start = 6; length = 2; resident = 0 } ∷ [])
+    ∷ regions []
+    ∷ refused 2 0
+    ∷ [])
+unfolding played
+lists = refl
