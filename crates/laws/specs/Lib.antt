@@ -1,0 +1,15 @@
+pub mod Models
+pub mod Refusals
+pub mod Checks
+pub mod Chains
+pub mod Pool
+pub mod Freeing
+pub mod Finds
+pub mod Room
+pub mod Lookup
+pub mod Looking
+pub mod Mapping
+pub mod Touching
+pub mod Checking
+pub mod Releasing
+pub mod Marking
