@@ -4,10 +4,11 @@ use memory::Lengths;
 ghost use mathlib.Core.Path.{_≡_};
 ghost use mathlib.Core.Bool.{Bool, true, _&&_};
 ghost use Prim.Native.Nat.{_<_, _≤_};
-ghost use Rattle.machine.specs.Machine.{sizesOk, between, isPageSize, enough, places, placeOf};
+ghost use Rattle.machine.specs.Machine.{sizesOk, between, isPageSize, enough, places, placeOf, spaceBytes};
 ghost use Rattle.memory.specs.Memory.{sizesOf};
 ghost use Rattle.places.specs.Places.{size};
 ghost use Rattle.laws.specs.Models.{everything, lentOf, checkOf};
+ghost use Rattle.laws.specs.Spans.{addressInside, spanInside};
 ghost use Rattle.checks.specs.Lengths.{ramBytes, tablesLong};
 
 // A table's word as an index.
@@ -139,4 +140,37 @@ pub fn check(h: Head, l: Lengths, space: u32, inside: bool) -> u32
         return 0;
     }
     3
+}
+
+// The bytes of a space.
+fn space_bytes(h: Head) -> usize
+    requires { ⌜ sizesOk (sizesOf h) ≡ true ⌝ }
+    ensures { λ r. ⌜ r ≡ spaceBytes (sizesOf h) ⌝ }
+{
+    let page = h.page;
+    wide(h.pages) << page.shift
+}
+
+// Whether an address lies in a space.
+pub fn address_inside(h: Head, address: usize) -> bool
+    ensures { λ r. ⌜ r ≡ addressInside h address ⌝ }
+{
+    if !sizes_ok(h) {
+        return false;
+    }
+    address < space_bytes(h)
+}
+
+// Whether the span of n bytes from an address on ends in a space. The sum itself might wrap.
+pub fn span_inside(h: Head, address: usize, n: usize) -> bool
+    ensures { λ r. ⌜ r ≡ spanInside h address n ⌝ }
+{
+    if !sizes_ok(h) {
+        return false;
+    }
+    let all = space_bytes(h);
+    if all < n {
+        return false;
+    }
+    address <= all - n
 }

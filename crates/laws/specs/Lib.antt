@@ -13,3 +13,6 @@ pub mod Touching
 pub mod Checking
 pub mod Releasing
 pub mod Marking
+pub mod Spans
+pub mod Parts
+pub mod Passing

@@ -13,7 +13,7 @@ use Rattle.machine.specs.Machine.{Sizes, places, placeOf, sizesOk, State, Lent,
 use Rattle.machine.specs.Laws.Sizes.{both, fit, some-places, passed, place-below}
 use Rattle.memory.specs.Memory.{Memory, sizesOf, lengths}
 use Rattle.promise.specs.Holds.{Holds}
-use Rattle.promise.specs.Did.{Later, Words, Tables, Bounds, Begins, Did}
+use Rattle.promise.specs.Did.{Later, Words, Tables, Writes, Bounds, Begins, Did}
 use Rattle.laws.specs.Models.{Checked}
 
 -- ---- what changes nothing stays within every bound
@@ -35,6 +35,20 @@ tables-none z i c t e s a l k =
       ram = refl;
     }
 
+pub writes-none : (z : Sizes) (touched stored : ℕ) (k : Memory) → Writes z touched stored k k
+writes-none z touched stored k =
+    record {
+      sizes = refl;
+      index = refl;
+      count = words-none touched _ (k .count);
+      table = words-none touched _ (k .table);
+      helper = words-none touched _ (k .helper);
+      stack = words-none touched _ (k .stack);
+      cache = words-none touched _ (k .cache);
+      link = words-none touched _ (k .link);
+      ram = words-none stored _ (k .ram);
+    }
+
 pub bounds-none : (c : Call) (k : Memory) → Bounds c k k
 bounds-none (start z l) k = record { table = refl; helper = refl; stack = refl; cache = refl; link = refl; ram = refl }
 bounds-none (mark i b l) k = record { head = refl; words = tables-none _ _ _ _ _ _ _ _ k }
@@ -45,7 +59,7 @@ bounds-none (release i b l) k = tables-none _ _ _ _ _ _ _ _ k
 bounds-none free k = refl
 bounds-none (translate i x l) k = refl
 bounds-none (read i x n l) k = refl
-bounds-none (write i x vs l) k = tt
+bounds-none (write i x vs l) k = writes-none _ _ _ k
 bounds-none (list i room l) k = refl
 
 -- a refused start begins nothing

@@ -66,20 +66,27 @@ taken-low link h zero some-left e = leb-false (h .frames) (h .fresh) some-left
 taken-low link h (suc n) some-left e = ltb-true (h .first) (h .frames) e
 
 module _ (k : Memory) (i b : ℕ) (passes : asked (sizesOf (k .head)) (touch i b (lengths k)) ≡ 0) where
-  pub new-inside : (a c : ℕ) → SeenAt k i b (sight-is.Unmapped a c) → emptyPool (k .head) ≡ false
-      → fitOk (k .head) (k .count) (k .stack) (places (sizesOf (k .head))) a ≡ true → Inside k (placeOf (sizesOf (k .head)) i b) a
-  unfolding Seen emptyPool fitOk
-  new-inside a c seen some-left fits =
+  -- a start that is seen is a place
+  pub seen-inside : (a c : ℕ) → SeenAt k i b (sight-is.Unmapped a c) → a < places (sizesOf (k .head))
+  unfolding Seen
+  seen-inside a c seen =
       let z = sizesOf (k .head) in
       let g = touch-admitted z i b (lengths k) passes in
       let p = placeOf z i b in
       let room = check-passes z (g .sizes-ok) (length (k .index)) (g .lent .index refl) p (g .place) in
       let low = seen-low (z .frames) (places z) (placeOf z i 0) p (k .index) (k .table) (residentOk (k .count) (k .helper) (k .stack) (k .cache) (places z) p) a c room seen in
+      omega (arith, g .place)
+
+  pub new-inside : (a c : ℕ) → SeenAt k i b (sight-is.Unmapped a c) → emptyPool (k .head) ≡ false
+      → fitOk (k .head) (k .count) (k .stack) (places (sizesOf (k .head))) a ≡ true → Inside k (placeOf (sizesOf (k .head)) i b) a
+  unfolding emptyPool fitOk
+  new-inside a c seen some-left fits =
+      let z = sizesOf (k .head) in
       let t₂ = both _ _ fits in
       let t₁ = both (ltb (a + at (k .count) a) (places z)) _ (t₂ .0) in
       record {
-        place = g .place;
-        start = omega (arith, g .place);
+        place = touch-admitted z i b (lengths k) passes .place;
+        start = seen-inside a c seen;
         top = ltb-true (a + at (k .count) a) (places z) (t₁ .0);
         frame = taken-low (k .link) (k .head) (k .head .many) some-left (t₂ .1);
       }

@@ -82,3 +82,8 @@ pub struct ReleaseOut {
     pub head: Head,
     pub answer: Released,
 }
+
+pub struct WriteOut {
+    pub head: Head,
+    pub answer: Done,
+}

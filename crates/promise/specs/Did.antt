@@ -8,7 +8,7 @@ use lib.ListN.{length, drop as dropped, replicate}
 use Rattle.sequence.specs.Lists.{Changed}
 use Rattle.places.specs.Places.{size}
 use Rattle.index.specs.Words.{indexOf}
-use Rattle.machine.specs.Machine.{Sizes, places, State, Call, Lent, start, mark, drop, touch, look, release, free, translate, read, write, list, asked, Answer, done, old, new, resident, absent, pages, frames, at, bytes, regions, refused, answer, after, begun, unless, tell}
+use Rattle.machine.specs.Machine.{Sizes, places, State, Call, Lent, start, mark, drop, touch, look, release, free, translate, read, write, list, spanPages, asked, Answer, done, old, new, resident, absent, pages, frames, at, bytes, regions, refused, answer, after, begun, unless, tell}
 use Rattle.memory.specs.Memory.{Memory, sizesOf, lengths}
 use Rattle.memory.specs.declared.Head.{Head}
 use Rattle.promise.specs.Holds.{Roomy, Holds}
@@ -83,6 +83,18 @@ pub record Marks (k k′ : Memory) : Type 0 where
   pub head : k′ .head ≡ k .head
   pub words : Tables (sizesOf (k .head)) 3 0 0 0 0 0 0 k k′
 
+-- write: "the touches' words", a word of each table for each page of the span, "and the span's bytes"
+pub record Writes (z : Sizes) (touched stored : ℕ) (k k′ : Memory) : Type 0 where
+  pub sizes : sizesOf (k′ .head) ≡ sizesOf (k .head)
+  pub index : k′ .index ≡ k .index
+  pub count : Words touched (places z) (k .count) (k′ .count)
+  pub table : Words touched (places z) (k .table) (k′ .table)
+  pub helper : Words touched (places z) (k .helper) (k′ .helper)
+  pub stack : Words touched (places z) (k .stack) (k′ .stack)
+  pub cache : Words touched (places z) (k .cache) (k′ .cache)
+  pub link : Words touched (z .frames) (k .link) (k′ .link)
+  pub ram : Words stored (z .frames * z .page) (k .ram) (k′ .ram)
+
 abbrev pub Bounds : Call → Memory → Memory → Type 0
 Bounds (start z l) k k′ = Prepares k k′
 Bounds (mark i b l) k k′ = Marks k k′
@@ -93,7 +105,7 @@ Bounds (release i b l) k k′ = Tables (sizesOf (k .head)) 0 1 0 0 0 0 1 k k′
 Bounds free k k′ = k′ ≡ k
 Bounds (translate i x l) k k′ = k′ ≡ k
 Bounds (read i x n l) k k′ = k′ ≡ k
-Bounds (write i x vs l) k k′ = Unit {0}
+Bounds (write i x vs l) k k′ = let z = sizesOf (k .head) in Writes z (spanPages z x (length vs)) (length vs) k k′
 Bounds (list i room l) k k′ = k′ ≡ k
 
 -- ---- honest memory

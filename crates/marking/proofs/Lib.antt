@@ -1,0 +1,4 @@
+pub mod Starting
+pub mod Placing
+pub mod Pages
+pub mod Pool

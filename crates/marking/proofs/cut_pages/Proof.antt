@@ -1,0 +1,51 @@
+-- The find's answer decides.
+use native.Mathlib.Omega.{arith}
+use Rattle.marking.proofs.Placing.{found-low, cut-in-space, cut-in-lower-space, cut-nothing, cut-refused}
+use borrow.Author.Needs.{needs}
+use Rattle.marking.proofs.cut_pages.Statement.{statement}
+use Rattle.marking.proofs.cut_pages.Tie as tie
+
+find-requires : tie.Need-find-requires
+find-requires c κs = search needs
+
+enum-known-a : tie.Need-enum-known-a
+enum-known-a c = search needs
+
+mul-result : tie.Need-mul-result
+mul-result c = omega (arith, found-low _ _ _ _ ((c .before .before .before .before .find) .ensures) ((c .before .before .before .before .before .before .before .pre) .check-passes) _ _ ((c .before .before .a) .given .1))
+
+shared-slice-read-result : tie.Need-shared-slice-read-result
+shared-slice-read-result c = omega (arith, found-low _ _ _ _ ((c .before .before .before .before .before .find) .ensures) ((c .before .before .before .before .before .before .before .before .pre) .check-passes) _ _ ((c .before .before .before .a) .given .1))
+
+returns : tie.Need-returns
+returns c = cut-in-space _ _ _ _ ((c .before .before .before .before .before .find) .ensures) _ _ _ _ ((c .before .before .before .a) .given .1) ((c .before .if1) .taken)
+
+enum-told : tie.Need-enum-told
+enum-told c = search needs
+
+enum-told-2 : tie.Need-enum-told-2
+enum-told-2 c = search needs
+
+returns-2 : tie.Need-returns-2
+returns-2 c = cut-in-lower-space _ _ _ _ ((c .before .before .before .before .find) .ensures) _ _ _ _ ((c .before .before .a) .given .1) ((c .if1) .left)
+
+returns-3 : tie.Need-returns-3
+returns-3 c = cut-nothing _ _ _ _ ((c .before .before .find) .ensures) _ _ _ ((c .enum-told) .given .1)
+
+returns-4 : tie.Need-returns-4
+returns-4 c = cut-refused _ _ _ _ ((c .before .before .find) .ensures) _ _ _ _ ((c .enum-told2) .given .1)
+
+pub cut-pages-spec : {M : Type 1} → statement M
+cut-pages-spec =
+    tie.close
+    (tie.spec
+    find-requires
+    enum-known-a
+    mul-result
+    shared-slice-read-result
+    returns
+    enum-told
+    enum-told-2
+    returns-2
+    returns-3
+    returns-4)

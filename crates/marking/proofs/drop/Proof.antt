@@ -1,0 +1,42 @@
+-- The check, then the start at its place.
+use Rattle.marking.proofs.Pages.{drop-refused, sizes-pass, page-pass, searchable, dropped}
+use borrow.Author.Needs.{needs}
+use Rattle.marking.proofs.drop.Statement.{statement}
+use Rattle.marking.proofs.drop.Tie as tie
+
+lent-requires : tie.Need-lent-requires
+lent-requires c κs = search needs
+
+check-requires : tie.Need-check-requires
+check-requires c κs = search needs
+
+returns : tie.Need-returns
+returns c = drop-refused _ _ _ _ _ ((c .before .check) .ensures) _ _ ((c .before .before .before .lent) .ensures) ((c .if1) .taken)
+
+all-places-requires : tie.Need-all-places-requires
+all-places-requires c κs = sizes-pass _ _ _ _ _ ((c .before .before .check) .ensures) ((c .before .if1) .left)
+
+place-requires : tie.Need-place-requires
+place-requires c κs = page-pass _ _ _ _ _ ((c .before .before .before .check) .ensures) ((c .before .before .if1) .left)
+
+drop-at-requires : tie.Need-drop-at-requires
+drop-at-requires c κs = searchable _ _ _ _ _ ((c .before .before .before .before .check) .ensures) _ _ ((c .before .before .before .before .before .before .lent) .ensures) ((c .before .before .before .if1) .left) _ _ ((c .before .all-places) .ensures) ((c .place) .ensures)
+
+same-length : tie.Need-same-length
+same-length c = search needs
+
+returns-2 : tie.Need-returns-2
+returns-2 c = dropped _ _ _ _ _ ((c .before .before .before .before .before .before .before .check) .ensures) _ _ ((c .before .before .before .before .before .before .before .before .before .lent) .ensures) ((c .before .before .before .before .before .before .if1) .left) _ _ ((c .before .before .before .before .all-places) .ensures) ((c .before .before .before .place) .ensures) _ _ ((c .before .before .drop-at) .ensures)
+
+pub drop-spec : {M : Type 1} → statement M
+drop-spec =
+    tie.close
+    (tie.spec
+    lent-requires
+    check-requires
+    returns
+    all-places-requires
+    place-requires
+    drop-at-requires
+    same-length
+    returns-2)

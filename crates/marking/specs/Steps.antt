@@ -1,0 +1,62 @@
+-- What the steps of start, mark and drop promise each other, in the terms of the calls' models.
+use mathlib.Core.Path.{_≡_}
+use mathlib.Core.Bool.{true}
+use mathlib.Core.List.{List}
+use Prim.Native.Nat.{ℕ, _≤_, _<_}
+use lib.ListN.{length}
+use Rattle.index.specs.Answers as index
+use Rattle.index.specs.Promise.{Sought}
+use Rattle.index.specs.declared.Change.{Change}
+use Rattle.machine.specs.Machine.{Sizes, places, sizesOk, Answer}
+use Rattle.memory.specs.Memory.{Memory, memory, sizesOf}
+use Rattle.memory.specs.declared.Head.{Head}
+use Rattle.memory.specs.declared.Lengths.{Lengths}
+use Rattle.laws.specs.Models.{any, changeSays, cutCount, withIndex, AsksStart, MarkIf, DropIf, Starts}
+
+abbrev pub sizes : ℕ → ℕ → ℕ → ℕ → Sizes
+sizes s n f p = record { spaces = s; pages = n; frames = f; page = p }
+
+abbrev pub lentTo : ℕ → ℕ → Lengths
+lentTo index count =
+    record { index = index; count = count; table = any; helper = any; stack = any; cache = any; link = any; ram = any }
+
+abbrev pub changeAnswer : Change → Answer
+changeAnswer c = changeSays (index.changeSays c)
+
+-- ---- start
+
+pub record Beginnable (h : Head) (count : List ℕ) : Type 0 where
+  pub sizes-ok : sizesOk (sizesOf h) ≡ true
+  pub count-long : places (sizesOf h) ≤ length count
+
+-- whatever head and tables were there before
+abbrev pub Begins : Head → List ℕ → List ℕ → Head → Answer → List ℕ → List ℕ → Type 0
+Begins next ws count h′ a ws′ count′ =
+    (h : Head) (table helper stack cache link ram : List ℕ)
+    → Starts next (memory h ws count table helper stack cache link ram) a (memory h′ ws′ count′ table helper stack cache link ram)
+
+-- ---- mark and drop
+
+-- place p of t, where the index and the counts are long enough
+pub record Searchable (t p : ℕ) (ws count : List ℕ) : Type 0 where
+  pub check-passes : index.check (length ws) t p ≡ 0
+  pub inside : p < t
+  pub few : t ≤ 262144
+  pub count-long : t ≤ length count
+
+-- the count of the region that a start at p would cut
+pub record CutPages (t lo p : ℕ) (ws count : List ℕ) (r : ℕ) : Type 0 where
+  pub found : index.Answer
+  pub sought : Sought t p ws found
+  pub is : r ≡ cutCount lo count found
+
+-- whatever head of t places and whatever tables stand around the index and the counts
+abbrev pub Around : ℕ → List ℕ → List ℕ → (Memory → Type 0) → Type 0
+Around t ws count P =
+    (h : Head) (table helper stack cache link ram : List ℕ) → places (sizesOf h) ≡ t → P (memory h ws count table helper stack cache link ram)
+
+abbrev pub MarkedAt : ℕ → ℕ → ℕ → List ℕ → List ℕ → Answer → List ℕ → Type 0
+MarkedAt t lo p ws count a ws′ = Around t ws count (λ k. AsksStart p k (λ s. MarkIf s p lo k a (withIndex k ws′)))
+
+abbrev pub DroppedAt : ℕ → ℕ → List ℕ → List ℕ → Answer → List ℕ → Type 0
+DroppedAt t p ws count a ws′ = Around t ws count (λ k. AsksStart p k (λ s. DropIf s p k a (withIndex k ws′)))

@@ -1,0 +1,240 @@
+// Starting, marking and dropping regions, and counting the pool.
+use checks::all_places;
+use checks::check;
+use checks::place;
+use checks::sizes_ok;
+use index::Change;
+use index::Found;
+use index::Membership;
+use machine::Done;
+use machine::Free;
+use machine::MadeSize;
+use machine::PageSize;
+use memory::ANY;
+use memory::Head;
+use memory::Lengths;
+use memory::StartOut;
+ghost use mathlib.Core.Path.{_≡_};
+ghost use mathlib.Core.List.{List, _++_};
+ghost use Prim.Native.Nat.{ℕ, _≤_};
+ghost use lib.ListN.{length, drop as dropped, replicate};
+ghost use Rattle.machine.specs.Machine as machine;
+ghost use Rattle.machine.specs.Answers.{doneSays, freeSays};
+ghost use Rattle.memory.specs.Memory.{memory};
+ghost use Rattle.promise.specs.Did.{Did};
+ghost use Rattle.marking.specs.Steps.{sizes, lentTo, changeAnswer, Beginnable, Begins, Searchable, CutPages, MarkedAt, DroppedAt};
+
+// The lengths of a call that is lent the index and the resident counts.
+fn lent(index: usize, count: usize) -> Lengths
+    ensures { λ r. ⌜ r ≡ lentTo index count ⌝ }
+{
+    Lengths {
+        index,
+        count,
+        table: ANY,
+        helper: ANY,
+        stack: ANY,
+        cache: ANY,
+        link: ANY,
+        ram: ANY,
+    }
+}
+
+// A refused start gives the head back as it was.
+fn not_started(head: Head, no: u32) -> StartOut
+    ensures { λ r. ⌜ (r .head ≡ head) × (doneSays (r .answer) ≡ machine.refused no 0) ⌝ }
+{
+    StartOut {
+        head,
+        answer: Done::Refused(no),
+    }
+}
+
+// No place counts a resident page.
+fn clear_counts(count: &mut [u32], t: usize)
+    requires { ⌜ t ≤ length (now count) ⌝ }
+    ensures { λ _. ⌜ now (count .exit) ≡ replicate t 0 ++ dropped t (now (count .entry)) ⌝ }
+{
+    let mut i = 0;
+    while i < t {
+        count[i] = 0;
+        i += 1;
+    }
+}
+
+// What a change of the index answers for the call that made it.
+fn changed(c: Change) -> Done
+    ensures { λ r. ⌜ doneSays r ≡ changeAnswer c ⌝ }
+{
+    match c {
+        Change::Done => Done::Ok,
+        Change::Refused(_) => Done::Refused(9),
+    }
+}
+
+// Prepares the index and the resident counts, and nothing else.
+fn begin(next: Head, index: &mut [u64], count: &mut [u32]) -> StartOut
+    requires { ⌜ Beginnable next (now count) ⌝ }
+    ensures { λ r. ⌜ Begins next (now (index .entry)) (now (count .entry)) (r .head) (doneSays (r .answer)) (now (index .exit)) (now (count .exit)) ⌝ }
+{
+    let t = all_places(next);
+    let done = index::prepare(index, t);
+    clear_counts(count, t);
+    StartOut {
+        head: next,
+        answer: changed(done),
+    }
+}
+
+// Sets the sizes: no starts, every frame in the pool. Five tables and the RAM may hold anything.
+pub fn start(
+    head: Head,
+    spaces: u32,
+    pages: u32,
+    frames: u32,
+    page: u32,
+    index: &mut [u64],
+    count: &mut [u32],
+) -> StartOut
+    ensures { λ r. ⌜ ((table helper stack cache link ram : List ℕ) →
+        Did (machine.start (sizes spaces pages frames page))
+        (memory head (now (index .entry)) (now (count .entry)) table helper stack cache link ram)
+        (doneSays (r .answer))
+        (memory (r .head) (now (index .exit)) (now (count .exit)) table helper stack cache link ram)) ⌝ }
+{
+    let MadeSize::Made(size) = PageSize::of(page) else {
+        return not_started(head, 1);
+    };
+    // `of` promises a size of 2 to the shift % 64.
+    let next = Head {
+        spaces,
+        pages,
+        frames,
+        page: PageSize {
+            shift: size.shift % 64,
+        },
+        first: 0,
+        many: 0,
+        fresh: 0,
+    };
+    let no = check(next, lent(index.len(), count.len()), 0, true);
+    if no != 0 {
+        return not_started(head, no);
+    }
+    begin(next, index, count)
+}
+
+// The resident pages of the region that a start at p would cut, in the space from lo on.
+fn cut_pages(index: &[u64], count: &[u32], t: usize, lo: usize, p: usize) -> u32
+    requires { ⌜ Searchable t p (now index) (now count) ⌝ }
+    ensures { λ r. ⌜ CutPages t lo p (now (index .entry)) (now (count .entry)) r ⌝ }
+{
+    match index::find(index, t, p) {
+        Found::Start(a, _) => {
+            if lo <= a {
+                return count[a];
+            }
+            0
+        }
+        Found::Missing(_) => 0,
+        Found::Refused(_, _) => 1,
+    }
+}
+
+// A start at p that is none yet, unless it cuts a region with resident pages.
+fn mark_at(index: &mut [u64], count: &[u32], t: usize, lo: usize, p: usize) -> Done
+    requires { ⌜ Searchable t p (now index) (now count) ⌝ }
+    ensures { λ r. ⌜ MarkedAt t lo p (now (index .entry)) (now (count .entry)) (doneSays r) (now (index .exit)) ⌝ }
+{
+    match index::is_set(index, t, p) {
+        Membership::Member => Done::Refused(6),
+        Membership::Absent => {
+            if cut_pages(index, count, t, lo, p) != 0 {
+                return Done::Refused(7);
+            }
+            changed(index::set(index, t, p))
+        }
+        Membership::Refused(_) => Done::Refused(9),
+    }
+}
+
+// Adds a start.
+pub fn mark(head: Head, space: u32, page: u32, index: &mut [u64], count: &[u32]) -> Done
+    ensures { λ r. ⌜ ((table helper stack cache link ram : List ℕ) →
+        Did (machine.mark space page)
+        (memory head (now (index .entry)) (now (count .entry)) table helper stack cache link ram)
+        (doneSays r)
+        (memory head (now (index .exit)) (now (count .entry)) table helper stack cache link ram)) ⌝ }
+{
+    let no = check(
+        head,
+        lent(index.len(), count.len()),
+        space,
+        page < head.pages,
+    );
+    if no != 0 {
+        return Done::Refused(no);
+    }
+    let t = all_places(head);
+    mark_at(
+        index,
+        count,
+        t,
+        place(head, space, 0),
+        place(head, space, page),
+    )
+}
+
+// The start at p gone, unless its region has resident pages.
+fn drop_at(index: &mut [u64], count: &[u32], t: usize, p: usize) -> Done
+    requires { ⌜ Searchable t p (now index) (now count) ⌝ }
+    ensures { λ r. ⌜ DroppedAt t p (now (index .entry)) (now (count .entry)) (doneSays r) (now (index .exit)) ⌝ }
+{
+    match index::is_set(index, t, p) {
+        Membership::Member => {
+            if count[p] != 0 {
+                return Done::Refused(7);
+            }
+            changed(index::clear(index, t, p))
+        }
+        Membership::Absent => Done::Refused(5),
+        Membership::Refused(_) => Done::Refused(9),
+    }
+}
+
+// Removes a start whose region has no resident page.
+pub fn drop(head: Head, space: u32, page: u32, index: &mut [u64], count: &[u32]) -> Done
+    ensures { λ r. ⌜ ((table helper stack cache link ram : List ℕ) →
+        Did (machine.drop space page)
+        (memory head (now (index .entry)) (now (count .entry)) table helper stack cache link ram)
+        (doneSays r)
+        (memory head (now (index .exit)) (now (count .entry)) table helper stack cache link ram)) ⌝ }
+{
+    let no = check(
+        head,
+        lent(index.len(), count.len()),
+        space,
+        page < head.pages,
+    );
+    if no != 0 {
+        return Done::Refused(no);
+    }
+    drop_at(index, count, all_places(head), place(head, space, page))
+}
+
+// The frames in the pool. Lent nothing but the head.
+pub fn free(head: Head) -> Free
+    ensures { λ r. ⌜ ((index count table helper stack cache link ram : List ℕ) →
+        Did (λ _. machine.free) (memory head index count table helper stack cache link ram) (freeSays r) (memory head index count table helper stack cache link ram)) ⌝ }
+{
+    if !sizes_ok(head) {
+        return Free::Refused(1);
+    }
+    if head.frames < head.many {
+        return Free::Refused(9);
+    }
+    if head.frames < head.fresh {
+        return Free::Refused(9);
+    }
+    Free::Frames(head.many + (head.frames - head.fresh))
+}

@@ -1,0 +1,16 @@
+-- The page is the quotient by the page's bytes.
+use mathlib.Core.Path.{_≡_, ap, _∙_}
+use Prim.Native.Nat.{ℕ, _/_}
+use Rattle.spans.proofs.Shifted.{size-exact}
+use borrow.Author.Needs.{needs}
+use Rattle.spans.proofs.page_of.Statement.{statement}
+use Rattle.spans.proofs.page_of.Tie as tie
+
+page-requires : tie.Need-page-requires
+page-requires c κs = search needs
+
+returns : tie.Need-returns
+returns c = (c .page) .ensures ∙ ap (λ (p : ℕ). (c .before .before .args) .x / p) (size-exact ((c .before .before .args) .h) (c .before .before .pre))
+
+pub page-of-spec : {M : Type 1} → statement M
+page-of-spec = tie.close (tie.spec page-requires returns)

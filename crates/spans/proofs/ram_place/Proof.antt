@@ -1,0 +1,31 @@
+-- Frame times page size, and the offset.
+use native.Mathlib.Omega.{arith}
+use mathlib.Core.Path.{_≡_, ap₂, _∙_}
+use Prim.Native.Nat.{_+_}
+use Rattle.checks.proofs.Shifts.{shift-fits}
+use Rattle.spans.proofs.Shifted.{frame-shifted, frame-small, offset-low, offset-exact, page-small}
+use borrow.Author.Needs.{needs}
+use Rattle.spans.proofs.ram_place.Statement.{statement}
+use Rattle.spans.proofs.ram_place.Tie as tie
+
+wide-requires : tie.Need-wide-requires
+wide-requires c κs = search needs
+
+cast-result : tie.Need-cast-result
+cast-result c = search needs
+
+shl-result : tie.Need-shl-result
+shl-result c = omega (arith, shift-fits ((c .before .before .before .args) .h) (c .before .before .before .pre))
+
+offset-requires : tie.Need-offset-requires
+offset-requires c κs = search needs
+
+add-result : tie.Need-add-result
+add-result c = omega (arith, frame-shifted ((c .before .before .before .before .args) .h) (c .before .before .before .before .pre) ((c .before .before .before .before .args) .frame) _ ((c .before .before .before .before .fits) .frame .fits) ((c .before .before .wide) .ensures), frame-small ((c .before .before .before .before .args) .h) (c .before .before .before .before .pre) ((c .before .before .before .before .args) .frame) ((c .before .before .before .before .fits) .frame .fits), offset-low ((c .before .before .before .before .args) .h) (c .before .before .before .before .pre) _ _ ((c .offset) .ensures), page-small ((c .before .before .before .before .args) .h) (c .before .before .before .before .pre))
+
+returns : tie.Need-returns
+returns c = ap₂ _+_ (frame-shifted ((c .before .before .before .before .args) .h) (c .before .before .before .before .pre) ((c .before .before .before .before .args) .frame) _ ((c .before .before .before .before .fits) .frame .fits) ((c .before .before .wide) .ensures)) (offset-exact ((c .before .before .before .before .args) .h) (c .before .before .before .before .pre) _ _ ((c .offset) .ensures))
+
+pub ram-place-spec : {M : Type 1} → statement M
+ram-place-spec =
+    tie.close (tie.spec wide-requires cast-result shl-result offset-requires add-result returns)

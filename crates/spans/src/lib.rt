@@ -1,0 +1,63 @@
+// Addresses and spans of a head whose sizes are within their limits: pages, parts of pages, places in RAM.
+use checks::wide;
+use machine::Looked;
+use memory::Head;
+ghost use mathlib.Core.Path.{_≡_};
+ghost use mathlib.Core.Bool.{true};
+ghost use Prim.Native.Nat.{_+_, _-_, _*_, _/_, _%_, _<_, _≤_, min};
+ghost use Rattle.machine.specs.Machine.{sizesOk, spaceBytes, spanPages};
+ghost use Rattle.memory.specs.Memory.{sizesOf};
+ghost use Rattle.spans.specs.Spans.{absenceOf};
+
+// The refusal of a page that was looked up and isn't resident; 0 for one that is.
+pub fn absence(found: Looked) -> u32
+    ensures { λ r. ⌜ r ≡ absenceOf found ⌝ }
+{
+    match found {
+        Looked::Resident(_) => 0,
+        Looked::Absent(_) => 10,
+        Looked::Refused(n, _) => n,
+    }
+}
+
+// The page of an address of a space.
+pub fn page_of(h: Head, x: usize) -> usize
+    requires { ⌜ sizesOk (sizesOf h) ≡ true ⌝ }
+    ensures { λ r. ⌜ r ≡ x / sizesOf h .page ⌝ }
+{
+    let size = h.page;
+    size.page(x)
+}
+
+// How many bytes of the page of address x lie from x on, at most `left`.
+pub fn part(h: Head, x: usize, left: usize) -> usize
+    requires { ⌜ sizesOk (sizesOf h) ≡ true ⌝ }
+    ensures { λ r. ⌜ r ≡ min (sizesOf h .page - x % sizesOf h .page) left ⌝ }
+{
+    let size = h.page;
+    let whole = (1usize << size.shift) - size.offset(x);
+    if left < whole {
+        return left;
+    }
+    whole
+}
+
+// How many pages the span of n bytes from an address on has.
+pub fn pages(h: Head, address: usize, n: usize) -> usize
+    requires { ⌜ (sizesOk (sizesOf h) ≡ true) × (address + n ≤ spaceBytes (sizesOf h)) ⌝ }
+    ensures { λ r. ⌜ r ≡ spanPages (sizesOf h) address n ⌝ }
+{
+    if n == 0 {
+        return 0;
+    }
+    page_of(h, address + (n - 1)) - page_of(h, address) + 1
+}
+
+// Where in RAM address x is, if its page holds the frame.
+pub fn ram_place(h: Head, frame: u32, x: usize) -> usize
+    requires { ⌜ sizesOk (sizesOf h) ≡ true ⌝ }
+    ensures { λ r. ⌜ r ≡ frame * sizesOf h .page + x % sizesOf h .page ⌝ }
+{
+    let size = h.page;
+    (wide(frame) << size.shift) + size.offset(x)
+}

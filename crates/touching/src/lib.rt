@@ -1,0 +1,256 @@
+// Touching a page: a resident one answers its frame; an absent one gets the pool's first frame, with one
+// word in each of the six tables and no loop.
+use checks::all_places;
+use checks::check;
+use checks::place;
+use checks::wide;
+use lookup::see;
+use machine::Touched;
+use memory::ANY;
+use memory::Head;
+use memory::Lengths;
+use memory::Plan;
+use memory::Sight;
+use memory::Taken;
+use memory::TouchOut;
+ghost use mathlib.Core.Path.{_≡_};
+ghost use mathlib.Core.List.{List};
+ghost use Prim.Native.Nat.{ℕ, _+_, _<_, _≤_};
+ghost use lib.ListN.{length};
+ghost use Rattle.machine.specs.Machine as machine;
+ghost use Rattle.machine.specs.Answers.{touchedSays};
+ghost use Rattle.memory.specs.Memory.{memory};
+ghost use Rattle.promise.specs.Did.{Did};
+ghost use Rattle.laws.specs.Models.{emptyPool, topOk, nextOk, fitOk, planFor, newestOf, taken};
+ghost use Rattle.touching.specs.Fits.{InReach, Takeable, Top, Mappable, Mapped, Planned};
+
+// Whether no frame is left.
+fn empty_pool(h: Head) -> bool
+    ensures { λ r. ⌜ r ≡ emptyPool h ⌝ }
+{
+    if h.many != 0 {
+        return false;
+    }
+    h.frames <= h.fresh
+}
+
+// Whether the newest entry of a region of n pages is a place.
+fn top_ok(stack: &[u32], t: usize, a: usize, n: usize) -> bool
+    requires { ⌜ (a + n ≤ length (now stack)) × (a + n ≤ 262144) ⌝ }
+    ensures { λ r. ⌜ r ≡ topOk (now (stack .entry)) t a n ⌝ }
+{
+    if n == 0 {
+        return true;
+    }
+    wide(stack[a + (n - 1)]) < t
+}
+
+// Whether the next frame is a frame.
+fn next_ok(h: Head) -> bool
+    ensures { λ r. ⌜ r ≡ nextOk (h .frames) (h .first) (h .many) ⌝ }
+{
+    if h.many == 0 {
+        return true;
+    }
+    h.first < h.frames
+}
+
+// Whether the words that a new page of the region at a needs are where they may be.
+fn fit(h: Head, count: &[u32], stack: &[u32], t: usize, a: usize) -> bool
+    requires { ⌜ (a < t) × (t ≤ 262144) × (t ≤ length (now count)) × (t ≤ length (now stack)) ⌝ }
+    ensures { λ r. ⌜ r ≡ fitOk h (now (count .entry)) (now (stack .entry)) t a ⌝ }
+{
+    let n = wide(count[a]);
+    if t <= a + n {
+        return false;
+    }
+    if !top_ok(stack, t, a, n) {
+        return false;
+    }
+    next_ok(h)
+}
+
+// What to do about a page so seen.
+fn plan(h: Head, s: Sight, count: &[u32], stack: &[u32], t: usize) -> Plan
+    requires { ⌜ InReach s t (now count) (now stack) ⌝ }
+    ensures { λ r. ⌜ r ≡ planFor h (now (count .entry)) (now (stack .entry)) t s ⌝ }
+{
+    match s {
+        Sight::Mapped(f) => Plan::Old(f),
+        Sight::Unmapped(a, c) => {
+            if empty_pool(h) {
+                return Plan::Refused(8, c);
+            }
+            if fit(h, count, stack, t, a) {
+                return Plan::New(a, c);
+            }
+            Plan::Refused(9, c)
+        }
+        Sight::Outside(c) => Plan::Refused(4, c),
+        Sight::Broken => Plan::Refused(9, 0),
+    }
+}
+
+// The pool's first frame: a linked one, or one never used.
+fn take(h: Head, link: &[u32]) -> Taken
+    requires { ⌜ Takeable h (now link) ⌝ }
+    ensures { λ r. ⌜ r ≡ taken (now (link .entry)) h ⌝ }
+{
+    let page = h.page;
+    if h.many == 0 {
+        let rest = Head {
+            spaces: h.spaces,
+            pages: h.pages,
+            frames: h.frames,
+            page,
+            first: h.first,
+            many: 0,
+            fresh: h.fresh + 1,
+        };
+        return Taken {
+            frame: h.fresh,
+            head: rest,
+        };
+    }
+    let first = wide(h.first);
+    let rest = Head {
+        spaces: h.spaces,
+        pages: h.pages,
+        frames: h.frames,
+        page,
+        first: link[first],
+        many: h.many - 1,
+        fresh: h.fresh,
+    };
+    Taken {
+        frame: h.first,
+        head: rest,
+    }
+}
+
+// The frame of the newest page of a region of n pages.
+pub fn newest(table: &[u32], stack: &[u32], a: usize, n: usize) -> u32
+    requires { ⌜ Top (now table) (now stack) a n ⌝ }
+    ensures { λ r. ⌜ r ≡ newestOf (now (table .entry)) (now (stack .entry)) a n ⌝ }
+{
+    if n == 0 {
+        return 0;
+    }
+    let q = wide(stack[a + (n - 1)]);
+    table[q]
+}
+
+// Maps page p of the region at a: one word in each table.
+fn map_page(
+    h: Head,
+    count: &mut [u32],
+    table: &mut [u32],
+    helper: &mut [u32],
+    stack: &mut [u32],
+    cache: &mut [u32],
+    link: &mut [u32],
+    a: usize,
+    p: usize,
+) -> Taken
+    requires { ⌜ Mappable h (now count) (now table) (now helper) (now stack) (now cache) (now link) a p ⌝ }
+    ensures { λ r. ⌜ Mapped h (now (count .entry)) (now (table .entry)) (now (helper .entry)) (now (stack .entry)) (now (cache .entry)) (now (link .entry)) a p r
+        (now (count .exit)) (now (table .exit)) (now (helper .exit)) (now (stack .exit)) (now (cache .exit)) (now (link .exit)) ⌝ }
+{
+    let new = take(h, link);
+    let f = wide(new.frame);
+    let n = wide(count[a]);
+    let before = newest(table, stack, a, n);
+    link[f] = before;
+    table[p] = new.frame;
+    helper[p] = n as u32;
+    stack[a + n] = p as u32;
+    cache[p] = a as u32;
+    count[a] = (n + 1) as u32;
+    new
+}
+
+// What a touch is to do. Reads only.
+fn planned(
+    head: Head,
+    space: u32,
+    page: u32,
+    index: &[u64],
+    count: &[u32],
+    table: &[u32],
+    helper: &[u32],
+    stack: &[u32],
+    cache: &[u32],
+    link: &[u32],
+) -> Plan
+    ensures { λ r. ⌜ Planned head space page (now (index .entry)) (now (count .entry)) (now (table .entry)) (now (helper .entry)) (now (stack .entry)) (now (cache .entry)) (now (link .entry)) r ⌝ }
+{
+    let lent = Lengths {
+        index: index.len(),
+        count: count.len(),
+        table: table.len(),
+        helper: helper.len(),
+        stack: stack.len(),
+        cache: cache.len(),
+        link: link.len(),
+        ram: ANY,
+    };
+    let no = check(head, lent, space, page < head.pages);
+    if no != 0 {
+        return Plan::Refused(no, 0);
+    }
+    let s = see(head, space, page, index, count, table, helper, stack, cache);
+    plan(head, s, count, stack, all_places(head))
+}
+
+// The page's frame, mapped if need be.
+pub fn touch(
+    head: Head,
+    space: u32,
+    page: u32,
+    index: &[u64],
+    count: &mut [u32],
+    table: &mut [u32],
+    helper: &mut [u32],
+    stack: &mut [u32],
+    cache: &mut [u32],
+    link: &mut [u32],
+) -> TouchOut
+    ensures { λ r. ⌜ ((ram : List ℕ) →
+        Did (machine.touch space page)
+        (memory head (now (index .entry)) (now (count .entry)) (now (table .entry)) (now (helper .entry)) (now (stack .entry)) (now (cache .entry)) (now (link .entry)) ram)
+        (touchedSays (r .answer))
+        (memory (r .head) (now (index .entry)) (now (count .exit)) (now (table .exit)) (now (helper .exit)) (now (stack .exit)) (now (cache .exit)) (now (link .exit)) ram)) ⌝ }
+{
+    let todo = planned(
+        head,
+        space,
+        page,
+        index,
+        count,
+        table,
+        helper,
+        stack,
+        cache,
+        link,
+    );
+    match todo {
+        Plan::Old(f) => TouchOut {
+            head,
+            answer: Touched::Old(f),
+        },
+        Plan::New(a, c) => {
+            let p = place(head, space, page);
+            let new = map_page(head, count, table, helper, stack, cache, link, a, p);
+            let frame = new.frame;
+            let next = new.head;
+            TouchOut {
+                head: next,
+                answer: Touched::New(frame, c),
+            }
+        }
+        Plan::Refused(n, c) => TouchOut {
+            head,
+            answer: Touched::Refused(n, c),
+        },
+    }
+}
