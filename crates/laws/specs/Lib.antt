@@ -16,3 +16,4 @@ pub mod Marking
 pub mod Spans
 pub mod Parts
 pub mod Passing
+pub mod Listing

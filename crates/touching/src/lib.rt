@@ -98,6 +98,7 @@ fn take(h: Head, link: &[u32]) -> Taken
 {
     let page = h.page;
     if h.many == 0 {
+        let fresh = h.fresh + 1;
         let rest = Head {
             spaces: h.spaces,
             pages: h.pages,
@@ -105,21 +106,23 @@ fn take(h: Head, link: &[u32]) -> Taken
             page,
             first: h.first,
             many: 0,
-            fresh: h.fresh + 1,
+            fresh,
         };
         return Taken {
             frame: h.fresh,
             head: rest,
         };
     }
-    let first = wide(h.first);
+    let f = wide(h.first);
+    let first = link[f];
+    let many = h.many - 1;
     let rest = Head {
         spaces: h.spaces,
         pages: h.pages,
         frames: h.frames,
         page,
-        first: link[first],
-        many: h.many - 1,
+        first,
+        many,
         fresh: h.fresh,
     };
     Taken {

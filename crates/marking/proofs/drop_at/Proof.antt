@@ -38,7 +38,9 @@ same-length-2 : tie.Need-same-length-2
 same-length-2 c = search needs
 
 returns-2 : tie.Need-returns-2
-returns-2 c = drop-put _ _ _ _ _ ((c .before .before .before .before .before .before .before .before .before .is-set) .ensures) ((c .before .before .before .before .before .before .before .enum-told) .given .1) (c .before .before .before .clear .result) _ _ ((c .before .before .before .before .before .if1) .left) ((c .before .before .before .clear) .ensures) ((c .changed) .ensures)
+returns-2 c =
+    let passed = c .before .before .before .before .before in
+    drop-put _ _ _ _ _ (passed .before .before .before .before .is-set .ensures) (passed .before .before .enum-told .given .1) (c .before .before .before .clear .result) _ _ (passed .if1 .left) (c .before .before .before .clear .ensures) (c .changed .ensures)
 
 same-length-3 : tie.Need-same-length-3
 same-length-3 c = search needs

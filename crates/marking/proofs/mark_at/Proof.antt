@@ -41,7 +41,9 @@ same-length-3 : tie.Need-same-length-3
 same-length-3 c = search needs
 
 returns-3 : tie.Need-returns-3
-returns-3 c = mark-put _ _ _ _ _ ((c .before .before .before .before .before .before .before .before .before .before .is-set) .ensures) _ ((c .before .before .before .before .before .before .before .before .enum-told2) .given .1) _ ((c .before .before .before .before .before .before .cut-pages) .ensures) (c .before .before .before .set .result) _ _ ((c .before .before .before .before .before .if1) .left) ((c .before .before .before .set) .ensures) ((c .changed) .ensures)
+returns-3 c =
+    let passed = c .before .before .before .before .before in
+    mark-put _ _ _ _ _ (passed .before .before .before .before .before .is-set .ensures) _ (passed .before .before .before .enum-told2 .given .1) _ (passed .before .cut-pages .ensures) (c .before .before .before .set .result) _ _ (passed .if1 .left) (c .before .before .before .set .ensures) (c .changed .ensures)
 
 same-length-4 : tie.Need-same-length-4
 same-length-4 c = search needs

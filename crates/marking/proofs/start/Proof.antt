@@ -41,7 +41,9 @@ same-length-2 : tie.Need-same-length-2
 same-length-2 c = search needs
 
 returns-3 : tie.Need-returns-3
-returns-3 c = start-begun _ _ _ _ _ _ _ _ ((c .before .before .before .before .before .before .before .before .before .before .before .before .before .before .of) .ensures) _ ((c .before .before .before .before .before .before .before .before .before .before .before .before .size) .given .1) _ _ ((c .before .before .before .before .before .before .before .before .before .lent) .ensures) ((c .before .before .before .before .before .before .before .before .check) .ensures) _ _ _ _ ((c .before .before .before .before .before .before .before .if1) .left) ((c .before .before .before .before .begin) .ensures)
+returns-3 c =
+    let passed = c .before .before .before .before .before .before .before in
+    start-begun _ _ _ _ _ _ _ _ (passed .before .before .before .before .before .before .before .of .ensures) _ (passed .before .before .before .before .before .size .given .1) _ _ (passed .before .before .lent .ensures) (passed .before .check .ensures) _ _ _ _ (passed .if1 .left) (c .before .before .before .before .begin .ensures)
 
 pub start-spec : {M : Type 1} → statement M
 start-spec =

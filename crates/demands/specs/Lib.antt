@@ -1,0 +1,4 @@
+pub mod History
+pub mod Demands
+pub mod Laws
+pub mod Theorems

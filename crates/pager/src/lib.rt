@@ -1,0 +1,18 @@
+// The pager's calls in one place, each with its answer and its refusals: document 01, "Refusal numbers".
+// None asks anything of its caller; 1 to 3 are refused on any memory, 9 only on memory that no call left so.
+
+// Begins anew with these sizes, no starts and every frame in the pool: Ok. Refused: 1.
+pub use marking::start;
+// Adds a start: Ok. Refused: 1, 2, 3; 6, the page is a start already; 7, the region that it cuts has resident pages; 9.
+pub use marking::mark;
+// Removes a start: Ok. Refused: 1, 2, 3; 5, the page is no start; 7, its region has resident pages; 9.
+pub use marking::drop;
+// Looks a page up: Resident with its frame, or Absent with the index words read. Refused, with the words: 1, 2, 3; 4, no region; 9.
+pub use lookup::look;
+// Counts the pool: Frames. Refused: 1, 9.
+pub use marking::free;
+// The page's frame: Old for a resident page, New with the index words for one just mapped. Refused, with the words: 1, 2, 3; 4, no region;
+// 8, no frame left; 9.
+pub use touching::touch;
+// Gives back every page of the region that starts at a page, in constant time: Pages. Refused: 1, 2, 3; 5, the page is no start; 9.
+pub use releasing::release;

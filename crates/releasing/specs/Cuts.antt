@@ -1,0 +1,61 @@
+-- What the splice may take for granted and does, and what a release is to do.
+use mathlib.Core.Path.{_≡_}
+use mathlib.Core.List.{List}
+use Prim.Native.Nat.{ℕ, _+_, _≤_, _<_}
+use lib.ListN.{length, set}
+use Rattle.index.specs.Answers as index
+use Rattle.index.specs.Promise.{Asked}
+use Rattle.machine.specs.Machine.{places, placeOf}
+use Rattle.memory.specs.Memory.{Memory, memory, at, sizesOf}
+use Rattle.memory.specs.declared.Head.{Head}
+use Rattle.memory.specs.declared.Spliced.{Spliced}
+use Rattle.memory.specs.declared.Cut.{Cut}
+use Rattle.memory.specs.declared.Cut.the-variants as cut-is
+use Rattle.laws.specs.Models.{checkOf, releaseLengths, pageInside, cutFor, newestOf, oldestOf}
+use Rattle.laws.specs.Checking.{OnCheck}
+use Rattle.touching.specs.Fits.{Top}
+
+-- ---- the splice
+
+-- the region at a can be given back
+pub record Spliceable (h : Head) (count table stack link : List ℕ) (a : ℕ) : Type 0 where
+  pub start : a < length count
+  pub on-stack : a < length stack
+  pub oldest : at stack a < length table
+  pub frame : oldestOf table stack a < length link
+  pub top : Top table stack a (at count a)
+  pub fits : h .many + at count a ≤ 65536
+
+abbrev pub splicedHead : Head → List ℕ → List ℕ → List ℕ → ℕ → Head
+splicedHead h count table stack a =
+    record {
+      spaces = h .spaces;
+      pages = h .pages;
+      frames = h .frames;
+      page = h .page;
+      first = newestOf table stack a (at count a);
+      many = h .many + at count a;
+      fresh = h .fresh;
+    }
+
+-- the region at a is given back: r is its pages and the head with their frames, and one count and one link have changed
+pub record Splices (h : Head) (count table stack link : List ℕ) (a : ℕ) (r : Spliced) (count′ link′ : List ℕ) : Type 0 where
+  pub pages-is : r .pages ≡ at count a
+  pub head-is : r .head ≡ splicedHead h count table stack a
+  pub count-is : count′ ≡ set count a 0
+  pub link-is : link′ ≡ set link (oldestOf table stack a) (h .first)
+
+-- ---- what a release is to do: the check's refusal, or what follows from whether the page is a start
+
+pub record CutsFrom (k : Memory) (a : ℕ) (r : Cut) : Type 0 where
+  pub is-set : index.Answer
+  pub set-asked : Asked (places (sizesOf (k .head))) a (k .index) is-set
+  pub is : r ≡ cutFor is-set (k .head) (k .count) (k .table) (k .stack) (places (sizesOf (k .head))) a
+
+abbrev pub CutOfIf : ℕ → Memory → ℕ → ℕ → Cut → Type 0
+CutOfIf n k i b r = OnCheck n cut-is.Refused (CutsFrom k (placeOf (sizesOf (k .head)) i b)) r
+
+-- release isn't lent helper, cache and RAM: any will do
+pub record CutOf (h : Head) (i b : ℕ) (index count table stack link : List ℕ) (r : Cut) : Type 0 where
+  pub any : (helper cache ram : List ℕ)
+      → (let k = memory h index count table helper stack cache link ram in CutOfIf (checkOf h (releaseLengths k) i (pageInside k b)) k i b r)

@@ -1,0 +1,167 @@
+// Releasing a region: one resident count and one frame link, however large the region.
+use checks::all_places;
+use checks::check;
+use checks::place;
+use checks::wide;
+use index::Membership;
+use machine::Released;
+use memory::ANY;
+use memory::Cut;
+use memory::Head;
+use memory::Lengths;
+use memory::ReleaseOut;
+use memory::Spliced;
+ghost use mathlib.Core.Path.{_≡_};
+ghost use mathlib.Core.List.{List};
+ghost use Prim.Native.Nat.{ℕ, _+_, _<_, _≤_};
+ghost use lib.ListN.{length};
+ghost use Rattle.machine.specs.Machine as machine;
+ghost use Rattle.machine.specs.Answers.{releasedSays};
+ghost use Rattle.memory.specs.Memory.{memory, at};
+ghost use Rattle.promise.specs.Did.{Did};
+ghost use Rattle.laws.specs.Models.{cutOk, cutIf};
+ghost use Rattle.releasing.specs.Cuts.{Spliceable, Splices, CutOf};
+
+// Whether the words that a release of the region at a with n pages needs are where they may be.
+fn cuttable(h: Head, table: &[u32], stack: &[u32], t: usize, a: usize, n: usize) -> bool
+    requires { ⌜ (a < t) × (0 < n) × (n < 4294967296) × (t ≤ 262144) × (t ≤ length (now table)) × (t ≤ length (now stack)) ⌝ }
+    ensures { λ r. ⌜ r ≡ cutOk h (now (table .entry)) (now (stack .entry)) t a n ⌝ }
+{
+    if t < a + n {
+        return false;
+    }
+    let first = wide(stack[a]);
+    if t <= first {
+        return false;
+    }
+    if h.frames <= table[first] {
+        return false;
+    }
+    if t <= wide(stack[a + n - 1]) {
+        return false;
+    }
+    wide(h.many) + n <= wide(h.frames)
+}
+
+// What to do about the region at a: nothing where it is empty.
+fn cut_at(h: Head, count: &[u32], table: &[u32], stack: &[u32], t: usize, a: usize) -> Cut
+    requires { ⌜ (a < t) × (t ≤ 262144) × (t ≤ length (now count)) × (t ≤ length (now table)) × (t ≤ length (now stack)) ⌝ }
+    ensures { λ r. ⌜ r ≡ cutIf (at (now (count .entry)) a) (cutOk h (now (table .entry)) (now (stack .entry)) t a (at (now (count .entry)) a)) a ⌝ }
+{
+    let n = wide(count[a]);
+    if n == 0 {
+        return Cut::Empty;
+    }
+    if cuttable(h, table, stack, t, a, n) {
+        return Cut::At(a);
+    }
+    Cut::Refused(9)
+}
+
+// What a release is to do. Reads only.
+fn cut_of(
+    head: Head,
+    space: u32,
+    page: u32,
+    index: &[u64],
+    count: &[u32],
+    table: &[u32],
+    stack: &[u32],
+    link: &[u32],
+) -> Cut
+    ensures { λ r. ⌜ CutOf head space page (now (index .entry)) (now (count .entry)) (now (table .entry)) (now (stack .entry)) (now (link .entry)) r ⌝ }
+{
+    let lent = Lengths {
+        index: index.len(),
+        count: count.len(),
+        table: table.len(),
+        helper: ANY,
+        stack: stack.len(),
+        cache: ANY,
+        link: link.len(),
+        ram: ANY,
+    };
+    let no = check(head, lent, space, page < head.pages);
+    if no != 0 {
+        return Cut::Refused(no);
+    }
+    let t = all_places(head);
+    let a = place(head, space, page);
+    match index::is_set(index, t, a) {
+        Membership::Member => cut_at(head, count, table, stack, t, a),
+        Membership::Absent => Cut::Refused(5),
+        Membership::Refused(_) => Cut::Refused(9),
+    }
+}
+
+// The splice: the oldest frame is linked to the pool's first, and the newest is now the first.
+fn splice(
+    h: Head,
+    count: &mut [u32],
+    table: &[u32],
+    stack: &[u32],
+    link: &mut [u32],
+    a: usize,
+) -> Spliced
+    requires { ⌜ Spliceable h (now count) (now table) (now stack) (now link) a ⌝ }
+    ensures { λ r. ⌜ Splices h (now (count .entry)) (now (table .entry)) (now (stack .entry)) (now (link .entry)) a r (now (count .exit)) (now (link .exit)) ⌝ }
+{
+    let n = count[a];
+    let first = wide(stack[a]);
+    let oldest = table[first];
+    let newest = touching::newest(table, stack, a, wide(n));
+    let many = h.many + n;
+    let page = h.page;
+    let end = wide(oldest);
+    link[end] = h.first;
+    count[a] = 0;
+    let head = Head {
+        spaces: h.spaces,
+        pages: h.pages,
+        frames: h.frames,
+        page,
+        first: newest,
+        many,
+        fresh: h.fresh,
+    };
+    Spliced { pages: n, head }
+}
+
+// Gives back every page of the region that starts at a page, in constant time.
+pub fn release(
+    head: Head,
+    space: u32,
+    page: u32,
+    index: &[u64],
+    count: &mut [u32],
+    table: &[u32],
+    stack: &[u32],
+    link: &mut [u32],
+) -> ReleaseOut
+    ensures { λ r. ⌜ ((helper cache ram : List ℕ) →
+        Did (machine.release space page)
+        (memory head (now (index .entry)) (now (count .entry)) (now (table .entry)) helper (now (stack .entry)) cache (now (link .entry)) ram)
+        (releasedSays (r .answer))
+        (memory (r .head) (now (index .entry)) (now (count .exit)) (now (table .entry)) helper (now (stack .entry)) cache (now (link .exit)) ram)) ⌝ }
+{
+    let todo = cut_of(head, space, page, index, count, table, stack, link);
+    match todo {
+        Cut::Empty => ReleaseOut {
+            head,
+            answer: Released::Pages(0),
+        },
+        Cut::At(a) => {
+            let done = splice(head, count, table, stack, link, a);
+            let n = done.pages;
+            let next = done.head;
+            ReleaseOut {
+                head: next,
+                answer: Released::Pages(n),
+            }
+        }
+        Cut::Refused(n) => ReleaseOut {
+            head,
+            answer: Released::Refused(n),
+        },
+    }
+}
