@@ -61,9 +61,9 @@ module _ (head : Head) (s n f bytes : ℕ) (ws count : List ℕ) (made : MadeSiz
       (record { answer-is = r .1; same = ap (λ (x : Head). memory x ws count table helper stack cache link ram) (r .0) }))
 
   module _ (size : PageSize) (made-is : made ≡ Made size) (l : Lengths) (number : ℕ) (lent : l ≡ lentTo (length ws) (length count))
-      (check : number ≡ checkOf (startHead s n f (size .shift % 64)) l 0 true) where
+      (check : number ≡ checkOf (startHead s n f (size .shift)) l 0 true) where
     abbrev next : Head
-    next = startHead s n f (size .shift % 64)
+    next = startHead s n f (size .shift)
 
     checked : number ≡ checkOf next (lentTo (length ws) (length count)) 0 true
     checked = check ∙ ap (λ (x : Lengths). checkOf next x 0 true) lent
@@ -72,9 +72,9 @@ module _ (head : Head) (s n f bytes : ℕ) (ws count : List ℕ) (made : MadeSiz
     start-refused h′ a fails r table helper stack cache link ram =
         start-did s n f bytes _ a _
         (rw (← sized, made-is)
-        (size .shift % 64, refl, checked-no _ number _ _ _ a checked fails (r .1) (ap (λ (x : Head). memory x ws count table helper stack cache link ram) (r .0))))
+        (size .shift, refl, checked-no _ number _ _ _ a checked fails (r .1) (ap (λ (x : Head). memory x ws count table helper stack cache link ram) (r .0))))
 
     pub start-begun : (h′ : Head) (a : Answer) (ws′ count′ : List ℕ) → number ≡ 0 → Begins next ws count h′ a ws′ count′ → DidStart h′ a ws′ count′
     start-begun h′ a ws′ count′ pass d table helper stack cache link ram =
         start-did s n f bytes _ a _
-        (rw (← sized, made-is) (size .shift % 64, refl, checked-yes _ number _ _ _ a checked pass (d head table helper stack cache link ram)))
+        (rw (← sized, made-is) (size .shift, refl, checked-yes _ number _ _ _ a checked pass (d head table helper stack cache link ram)))

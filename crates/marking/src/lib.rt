@@ -105,14 +105,11 @@ pub fn start(
     let MadeSize::Made(size) = PageSize::of(page) else {
         return not_started(head, 1);
     };
-    // `of` promises a size of 2 to the shift % 64.
     let next = Head {
         spaces,
         pages,
         frames,
-        page: PageSize {
-            shift: size.shift % 64,
-        },
+        page: size,
         first: 0,
         many: 0,
         fresh: 0,
