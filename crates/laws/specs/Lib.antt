@@ -14,6 +14,11 @@ pub mod Checking
 pub mod Releasing
 pub mod Marking
 pub mod Spans
-pub mod Parts
 pub mod Passing
 pub mod Listing
+pub mod SpanChecks
+pub mod Told
+pub mod Found
+pub mod Translating
+pub mod Parts
+pub mod Reading

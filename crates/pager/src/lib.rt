@@ -16,3 +16,9 @@ pub use marking::free;
 pub use touching::touch;
 // Gives back every page of the region that starts at a page, in constant time: Pages. Refused: 1, 2, 3; 5, the page is no start; 9.
 pub use releasing::release;
+// The place in RAM of an address: At. Refused: 1, 2, 3; 4, no region; 10, the page is absent; 9.
+pub use reading::translate;
+// The bytes of a span into the caller's buffer: Copied. Refused, as for the first page that isn't resident: 1, 2, 3; 4; 10; 9.
+pub use reading::read;
+// One record a region of a space: Regions. Refused: 1, 2; 11, fewer records than regions; 9.
+pub use listing::list;

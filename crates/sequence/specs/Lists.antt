@@ -1,10 +1,10 @@
 -- Lists by a rule, and lists of which few entries changed.
-use mathlib.Core.Path.{_≡_, refl, ap}
+use mathlib.Core.Path.{_≡_, refl, ap, ap₂, _∙_}
 use mathlib.Core.List.{List, [], _∷_, _++_, List·Memᴰ}
-use Prim.Native.Nat.{ℕ, zero, suc, _≤_, _<_}
+use Prim.Native.Nat.{ℕ, zero, suc, _+_, _≤_, _<_}
 use native.Mathlib.Decide.{ℕ-discrete}
 use native.Mathlib.Omega.{arith}
-use native.Mathlib.Nat.{not-suc-le-zero}
+use native.Mathlib.Nat.{not-suc-le-zero, zero-add, suc-add}
 use lib.ListN.{length, getD, replicate, length-append, List·getD-append}
 use lib.Seq.{getD-append-seam}
 
@@ -24,6 +24,17 @@ module _ {ℓ} {A : Type ℓ} where
   getD-tabulate f zero i d h = absurd (not-suc-le-zero h)
   getD-tabulate f (suc n) zero d h = refl
   getD-tabulate f (suc n) (suc i) d h = getD-tabulate (λ i. f (suc i)) n i d (omega arith)
+
+  pub tabulate-same : (f g : ℕ → A) (n : ℕ) → ((i : ℕ) → i < n → f i ≡ g i) → tabulate f n ≡ tabulate g n
+  unfolding tabulate
+  tabulate-same f g zero h = refl
+  tabulate-same f g (suc n) h =
+      ap₂ (λ (x : A) (xs : List A). x ∷ xs) (h 0 (omega arith)) (tabulate-same (λ i. f (suc i)) (λ i. g (suc i)) n (λ i l. h (suc i) (omega arith)))
+
+  pub tabulate-append : (f : ℕ → A) (m n : ℕ) → tabulate f (m + n) ≡ tabulate f m ++ tabulate (λ i. f (m + i)) n
+  unfolding tabulate
+  tabulate-append f zero n = simp zero-add
+  tabulate-append f (suc m) n = rw suc-add (ap (λ (xs : List A). f 0 ∷ xs) (tabulate-append (λ i. f (suc i)) m n) ∙ simp suc-add)
 
   -- a fact of every entry; d stands past the end
   abbrev pub Each : A → (A → Type 0) → List A → Type 0

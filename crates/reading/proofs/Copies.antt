@@ -1,0 +1,141 @@
+-- A part of a page, where it lies in RAM and what a copy of it gives; and parts copied one after another.
+use mathlib.Core.Path.{_≡_, sym, ap, ap₂, _∙_, subst}
+use mathlib.Core.List.{List, [], _++_, append-nil, append-assoc}
+use Prim.Native.Nat.{ℕ, _+_, _-_, _*_, _/_, _%_, _≤_, _<_, min}
+use native.Mathlib.Nat.{add-zero, mod-lt, mul-le-mul-left, mul-le-mul-right, add-sub-cancel-left}
+use native.Mathlib.Omega.{arith}
+use borrow.Rule.Slice.PartMut.{putMid, same-len-mid}
+use lib.ListN.{length, take, drop, length-append, length-drop, drop-of-length-le}
+use lib.Seq.{length-take-le, take-at}
+use Rattle.machine.specs.Machine.{Sizes, pageOfAddress, State, pageOf, look, absence}
+use Rattle.machine.specs.Answers.{lookedSays}
+use Rattle.machine.specs.declared.Looked.{Looked}
+use Rattle.machine.specs.declared.Looked.the-variants.{Resident}
+use Rattle.machine.specs.Laws.Sizes.{fit, page-below}
+use Rattle.memory.specs.Memory.{Memory, sizesOf}
+use Rattle.memory.specs.declared.Head.{Head}
+use Rattle.promise.specs.Holds.{Holds}
+use Rattle.promise.specs.Did.{Did}
+use Rattle.laws.specs.Found.{Found, address-found, Residence, residence, residence-below, RefusedAs, refused-is}
+use Rattle.laws.specs.Parts.{part-bytes, OnResident, CopiedOut, FrontCopied, front-none, front-more, front-all}
+use Rattle.spans.proofs.Shifted.{some-page, page-small}
+use Rattle.reading.specs.Spans.{Span, Part}
+
+-- ---- one part
+
+module _ (h : Head) (i x n : ℕ) (ram : List ℕ) (pre : Part h i x n ram) where
+  pub part-page : x / sizesOf h .page < h .pages
+  part-page = page-below (sizesOf h) x (fit (sizesOf h) (pre .span .sizes-ok)) (omega (arith, pre .span .ends, pre .some-bytes))
+
+  pub part-small : n ≤ 65536
+  part-small = omega (arith, pre .fits, page-small h (pre .span .sizes-ok))
+
+  -- in the RAM of frame f
+  module _ (f from : ℕ) (at : from ≡ f * sizesOf h .page + x % sizesOf h .page) (below : f < h .frames) where
+    in-frame : from + n ≤ h .frames * sizesOf h .page
+    in-frame = omega (arith, at, pre .fits, mul-le-mul-right (sizesOf h .page) below)
+
+    pub part-ends : from + n ≤ length ram
+    part-ends = omega (arith, in-frame, pre .span .ram-long)
+
+    pub part-low : from + n ≤ 4294967296
+    part-low =
+        omega (
+          arith,
+          in-frame,
+          mul-le-mul-right (sizesOf h .page) (fit (sizesOf h) (pre .span .sizes-ok) .few-frames),
+          mul-le-mul-left 65536 (page-small h (pre .span .sizes-ok)),
+        )
+
+    pub part-long : length (take (from + n - from) (drop from ram)) ≡ n
+    part-long =
+        length-take-le (from + n - from) (drop from ram) (rw length-drop (omega (arith, part-ends))) ∙ add-sub-cancel-left from n
+
+module _ (k : Memory) (i x n : ℕ) (pre : Part (k .head) i x n (k .ram)) (found : Looked) (looked : Did (look i (x / sizesOf (k .head) .page)) k (lookedSays found) k) where
+  found-is : (m : State) → Holds m k → Found m (pageOfAddress (m .sizes) i x) found
+  found-is m h = address-found m k h i x (pre .span .space) (part-page (k .head) i x n (k .ram) pre) found looked
+
+  -- the page of its first byte
+  first-page : (m : State) → OnResident m i x n → absence (pageOf m (pageOfAddress (m .sizes) i x)) ≡ 0
+  first-page m on = subst (λ (y : ℕ). absence (pageOf m (pageOfAddress (m .sizes) i y)) ≡ 0) (add-zero x) (on 0 (pre .some-bytes))
+
+  -- on honest memory a page that isn't resident, and a frame beyond the last, don't occur
+  pub part-absent : (r : ℕ) → RefusedAs found r → (dst : List ℕ) → CopiedOut k i x n dst
+  part-absent r e dst m h on = absurd (omega (arith, refused-is m _ found r e (found-is m h) .0, refused-is m _ found r e (found-is m h) .1, first-page m on))
+
+  module _ (f : ℕ) (is : found ≡ Resident f) where
+    residence-is : (m : State) → Holds m k → Residence m (pageOfAddress (m .sizes) i x) f
+    residence-is m h = residence m _ f (subst (Found m _) is (found-is m h))
+
+    pub part-beyond : k .head .frames ≤ f → (dst : List ℕ) → CopiedOut k i x n dst
+    part-beyond beyond dst m h on = absurd (omega (arith, residence-below m k h _ f (residence-is m h), ap (λ (z : Sizes). z .frames) (h .sizes-are)))
+
+    pub part-copied : (from : ℕ) → from ≡ f * sizesOf (k .head) .page + x % sizesOf (k .head) .page → f < k .head .frames → (dst dst′ : List ℕ) → length dst ≡ n
+        → let src = take (from + n - from) (drop from (k .ram)) in
+        dst′ ≡ src ++ drop (length src) dst → CopiedOut k i x n dst′
+    part-copied from at below dst dst′ l e m h on =
+        let src = take (from + n - from) (drop from (k .ram)) in
+        let long = part-long (k .head) i x n (k .ram) pre f from at below in
+        let rest : drop (length src) dst ≡ [] = drop-of-length-le dst {i = length src} (omega arith) in
+        e
+        ∙ ap (λ (l : List ℕ). src ++ l) rest
+        ∙ append-nil src
+        ∙ ap₂ (λ (c o : ℕ). take c (drop o (k .ram))) (add-sub-cancel-left from n) (at ∙ ap (λ (z : Sizes). f * z .page + x % z .page) (h .sizes-are))
+        ∙ part-bytes m k h i x n f (residence-is m h) (subst (λ (z : Sizes). x % z .page + n ≤ z .page) (h .sizes-are) (pre .fits))
+
+-- ---- parts one after another
+
+-- a part of the buffer that ends within it
+next-long : (buffer : List ℕ) (a b : ℕ) → b ≤ length buffer → length (take (b - a) (drop a buffer)) ≡ b - a
+next-long buffer a b l = length-take-le (b - a) (drop a buffer) (rw length-drop (omega arith))
+
+-- the next s of n bytes, of which `done` are copied
+module _ (h : Head) (i x n : ℕ) (ram : List ℕ) (pre : Span h i x n ram) (done s : ℕ) (low : done < n) (is : s ≡ min (sizesOf h .page - (x + done) % sizesOf h .page) (n - done)) where
+  pub next-some : 0 < s
+  next-some = omega (arith, mod-lt (x + done) (some-page h (pre .sizes-ok)))
+
+  pub next-within : done + s ≤ n
+  next-within = omega arith
+
+  pub next-part : (buffer : List ℕ) → length buffer ≡ n → Part h i (x + done) (length (take (done + s - done) (drop done buffer))) ram
+  next-part buffer l =
+      let e = next-long buffer done (done + s) (omega arith) in
+      record {
+        span = record { sizes-ok = pre .sizes-ok; space = pre .space; ends = omega (arith, pre .ends); ram-long = pre .ram-long };
+        some-bytes = omega (arith, next-some);
+        fits = omega (arith, mod-lt (x + done) (some-page h (pre .sizes-ok)));
+      }
+
+-- the loop's state: the first `done` bytes are copied, whatever the link
+pub record Copying (x n : ℕ) (buffer : List ℕ) (done : ℕ) (k : List ℕ → Memory) (i : ℕ) : Type 0 where
+  pub within : done ≤ n
+  pub long : length buffer ≡ n
+  pub front : (link : List ℕ) → FrontCopied (k link) i x n done buffer
+
+module _ (x n : ℕ) (k : List ℕ → Memory) (i : ℕ) where
+  pub copying-none : (buffer : List ℕ) → length buffer ≡ n → Copying x n buffer 0 k i
+  copying-none buffer l = record { within = omega arith; long = l; front = λ link. front-none (k link) i x n buffer }
+
+  pub copying-more : (buffer : List ℕ) (done s : ℕ) (part : List ℕ) → Copying x n buffer done k i → done + s ≤ n
+      → let lent = take (done + s - done) (drop done buffer) in
+      length part ≡ length lent → ((link : List ℕ) → CopiedOut (k link) i (x + done) (length lent) part)
+      → Copying x n (putMid done (done + s - done) buffer part) (done + s) k i
+  copying-more buffer done s part c fits same copied =
+      record {
+        within = fits;
+        long = same-len-mid done (done + s - done) buffer part same ∙ c .long;
+        front = λ link.
+            front-more (k link) i x n done s buffer _ part fits (c .front link)
+            (subst (λ (l : ℕ). CopiedOut (k link) i (x + done) l part) (sym same ∙ part-is) (copied link)) front;
+      }
+    where
+      part-is : length part ≡ s
+      part-is = same ∙ next-long buffer done (done + s) (omega (arith, c .long)) ∙ add-sub-cancel-left done s
+
+      front : take (done + s) (putMid done (done + s - done) buffer part) ≡ take done buffer ++ part
+      front =
+          ap (take (done + s)) (sym (append-assoc (take done buffer) part _))
+          ∙ take-at (take done buffer ++ part) _ (done + s) (rw (length-append, length-take-le done buffer (omega (arith, c .long)), part-is))
+
+  pub copying-all : (buffer : List ℕ) (done : ℕ) → Copying x n buffer done k i → n ≤ done → (link : List ℕ) → CopiedOut (k link) i x n buffer
+  copying-all buffer done c l link = front-all (k link) i x n done buffer (omega (arith, c .within)) (c .long) (c .front link)

@@ -1,0 +1,4 @@
+pub mod Checked
+pub mod Absent
+pub mod Looking
+pub mod Copies
