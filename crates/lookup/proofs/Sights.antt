@@ -1,7 +1,7 @@
 -- What is seen, from the index's answer or from the residence test.
 use mathlib.Core.Path.{_≡_, refl, sym, ap, _∙_, subst}
 use mathlib.Core.Bool.{Bool, true, false}
-use mathlib.Core.List.{List}
+use mathlib.Core.List.{List, []}
 use Prim.Native.Nat.{ℕ, _≤_, _<_}
 use native.Mathlib.Omega.{arith}
 use borrow.Author.Tests.{lt-leb, le-leb, ltb-true, lt-ltb}
@@ -11,14 +11,17 @@ use Rattle.places.specs.Places.{size}
 use Rattle.index.specs.Answers.{foundSays, check, placesOk}
 use Rattle.index.specs.declared.Found as found
 use Rattle.index.specs.declared.Found.the-variants as found-is
-use Rattle.machine.specs.Machine.{places, placeOf, sizesOk}
+use Rattle.machine.specs.Machine.{places, placeOf, sizesOk, look, Answer, refused}
 use Rattle.machine.specs.Laws.Sizes.{fit, some-places, place-below}
 use Rattle.memory.specs.Memory.{Memory, memory, at, sizesOf}
 use Rattle.memory.specs.declared.Head.{Head}
 use Rattle.memory.specs.declared.Sight.{Sight}
 use Rattle.memory.specs.declared.Sight.the-variants.{Unmapped, Outside, Broken}
-use Rattle.laws.specs.Models.{residentOk, sightMapped, sightFound, Searched, Seen, lookLengths, pageInside, checkOf}
+use Rattle.laws.specs.Models.{residentOk, sightMapped, sightFound, Searched, Seen, lookLengths, pageInside, checkOf, lookSays}
+use Rattle.promise.specs.Did.{Did}
+use Rattle.laws.specs.Checking.{checked-no, checked-yes}
 use Rattle.laws.specs.Checking as checking
+use Rattle.laws.specs.Looking.{look-did}
 use Rattle.lookup.specs.Ready.{Tabled, Ready, SeenOf}
 
 -- ---- the index's answer
@@ -93,3 +96,19 @@ look-ready h i b index count table helper stack cache link ram e =
       stack-long = y .lent .stack refl;
       cache-long = y .lent .cache refl;
     }
+
+module _ (h : Head) (i b : ℕ) (index count table helper stack cache : List ℕ) (no : ℕ)
+    (checked : no ≡ checkOf h (lookLengths (memory h index count table helper stack cache [] [])) i (ltb b (h .pages))) where
+  -- look's promise, whatever link and RAM are
+  abbrev DidLook : Answer → Type 0
+  DidLook a =
+      (link ram : List ℕ)
+      → (let k = memory h index count table helper stack cache link ram in Did (look i b) k a k)
+
+  pub look-refused : (no ≡ 0 → ⊥) → DidLook (refused no 0)
+  look-refused fails link ram = let k = memory h index count table helper stack cache link ram in look-did i b k _ k (checked-no _ no _ k k _ checked fails refl refl)
+
+  pub look-found : no ≡ 0 → (s : Sight) (a : Answer) → SeenOf h i b index count table helper stack cache s → a ≡ lookSays s → DidLook a
+  look-found pass s a seen says link ram =
+      let k = memory h index count table helper stack cache link ram in
+      look-did i b k a k (checked-yes _ no _ k k a checked pass (record { sight = s; seen = seen; answer-is = says; same = refl }))

@@ -46,7 +46,11 @@ within-requires-3 c κs = search needs
 
 returns-4 : tie.Need-returns-4
 unfolding sizesOk
-returns-4 c = rw (← (c .before .before .before .before .before .before .before .before .before .wide) .ensures, ← (c .before .before .before .before .before .before .before .before .wide2) .ensures, ← (c .before .before .wide3) .ensures, held ((c .before .before .before .before .before .before .before .within) .ensures) ((c .before .before .before .before .before .before .if1) .left), held ((c .before .before .before .before .before .within2) .ensures) ((c .before .before .before .before .if2) .left), le-leb _ _ ((c .before .before .before .if3) .left), failed ((c .before .within3) .ensures) ((c .if4) .taken))
+returns-4 c =
+    let here = c .before .before in
+    let far = here .before .before .before in
+    let farther = far .before .before .before in
+    rw (← (farther .before .wide) .ensures, ← (farther .wide2) .ensures, ← (here .wide3) .ensures, held ((far .before .before .within) .ensures) ((far .before .if1) .left), held ((far .within2) .ensures) ((here .before .before .if2) .left), le-leb _ _ ((here .before .if3) .left), failed ((c .before .within3) .ensures) ((c .if4) .taken))
 
 wide-requires-4 : tie.Need-wide-requires-4
 wide-requires-4 c κs = search needs
@@ -56,7 +60,12 @@ within-requires-4 c κs = search needs
 
 returns-5 : tie.Need-returns-5
 unfolding sizesOk
-returns-5 c = rw (← (c .before .before .before .before .before .before .before .before .before .before .before .before .wide) .ensures, ← (c .before .before .before .before .before .before .before .before .before .before .before .wide2) .ensures, ← (c .before .before .before .before .before .wide3) .ensures, held ((c .before .before .before .before .before .before .before .before .before .before .within) .ensures) ((c .before .before .before .before .before .before .before .before .before .if1) .left), held ((c .before .before .before .before .before .before .before .before .within2) .ensures) ((c .before .before .before .before .before .before .before .if2) .left), le-leb _ _ ((c .before .before .before .before .before .before .if3) .left), held ((c .before .before .before .before .within3) .ensures) ((c .before .before .before .if4) .left)) ((c .within4) .ensures ∙ ap (between 8 16) ((c .before .wide4) .ensures) ∙ page-shift _)
+returns-5 c =
+    let here = c .before .before .before in
+    let far = here .before .before .before in
+    let farther = far .before .before .before in
+    let farthest = farther .before .before .before in
+    rw (← (farthest .wide) .ensures, ← (farther .before .before .wide2) .ensures, ← (here .before .before .wide3) .ensures, held ((farther .before .within) .ensures) ((farther .if1) .left), held ((far .before .before .within2) .ensures) ((far .before .if2) .left), le-leb _ _ ((far .if3) .left), held ((here .before .within3) .ensures) ((here .if4) .left)) ((c .within4) .ensures ∙ ap (between 8 16) ((c .before .wide4) .ensures) ∙ page-shift _)
 
 pub sizes-ok-spec : {M : Type 1} → statement M
 sizes-ok-spec =

@@ -15,10 +15,16 @@ slice-reshare-prefix-copy : tie.Need-slice-reshare-prefix-copy
 slice-reshare-prefix-copy c = search needs
 
 slice-aggregate-copy : tie.Need-slice-aggregate-copy
-slice-aggregate-copy c = (c .before .before .before .copy) .ensures .0 ∙ sym (ap length (front ((c .before .before .before .before .before .before .before .before .args) .src .now) ((c .before .before .before .before .before .before .before .before .args) .page .now) _ _ ((c .before .before .before .copy) .ensures .0) ((c .before .before .before .copy) .ensures .1)))
+slice-aggregate-copy c =
+    let here = c .before .before .before in
+    let far = here .before .before .before .before .before in
+    (here .copy) .ensures .0 ∙ sym (ap length (front ((far .args) .src .now) ((far .args) .page .now) _ _ ((here .copy) .ensures .0) ((here .copy) .ensures .1)))
 
 copy-requires-2 : tie.Need-copy-requires-2
-copy-requires-2 c κs = subst (λ (l : List ℕ). length l ≤ length ((c .before .before .before .before .before .before .before .before .before .args) .dst .now)) (sym (front ((c .before .before .before .before .before .before .before .before .before .args) .src .now) ((c .before .before .before .before .before .before .before .before .before .args) .page .now) _ _ ((c .before .before .before .before .copy) .ensures .0) ((c .before .before .before .before .copy) .ensures .1))) ((c .before .before .before .before .before .before .before .before .before .pre) .1)
+copy-requires-2 c κs =
+    let here = c .before .before .before .before in
+    let far = here .before .before .before .before .before in
+    subst (λ (l : List ℕ). length l ≤ length ((far .args) .dst .now)) (sym (front ((far .args) .src .now) ((far .args) .page .now) _ _ ((here .copy) .ensures .0) ((here .copy) .ensures .1))) ((far .pre) .1)
 
 same-length : tie.Need-same-length
 same-length c = search needs
@@ -27,7 +33,11 @@ same-length-2 : tie.Need-same-length-2
 same-length-2 c = search needs
 
 returns : tie.Need-returns
-returns c = again ((c .before .before .before .before .before .before .before .before .before .before .before .before .args) .src .now) _ ((c .before .before .before .before .before .before .before .before .before .before .before .before .args) .dst .now) _ (front ((c .before .before .before .before .before .before .before .before .before .before .before .before .args) .src .now) ((c .before .before .before .before .before .before .before .before .before .before .before .before .args) .page .now) _ _ ((c .before .before .before .before .before .before .before .copy) .ensures .0) ((c .before .before .before .before .before .before .before .copy) .ensures .1)) ((c .before .before .copy2) .ensures .1)
+returns c =
+    let here = c .before .before in
+    let far = here .before .before .before .before .before in
+    let farther = far .before .before .before .before .before in
+    again ((farther .args) .src .now) _ ((farther .args) .dst .now) _ (front ((farther .args) .src .now) ((farther .args) .page .now) _ _ ((far .copy) .ensures .0) ((far .copy) .ensures .1)) ((here .copy2) .ensures .1)
 
 pub via-spec : {M : Type 1} → statement M
 via-spec =

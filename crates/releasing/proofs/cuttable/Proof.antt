@@ -59,7 +59,12 @@ wide-requires-4 : tie.Need-wide-requires-4
 wide-requires-4 c κs = search needs
 
 returns-5 : tie.Need-returns-5
-returns-5 c = cuttable-as _ _ _ _ _ _ _ (c .before .before .before .before .before .before .before .before .before .wide .ensures) _ (c .before .before .before .wide2 .ensures) (c .before .before .before .before .before .before .before .before .before .before .before .if1 .left) (c .before .before .before .before .before .before .before .before .if2 .left) (c .before .before .before .before .before .if3 .left) (c .before .before .if4 .left) _ _ (c .before .wide3 .ensures) (c .wide4 .ensures)
+returns-5 c =
+    let here = c .before .before in
+    let far = here .before .before .before in
+    let farther = far .before .before .before in
+    let farthest = farther .before .before .before in
+    cuttable-as _ _ _ _ _ _ _ (farther .before .wide .ensures) _ (here .before .wide2 .ensures) (farthest .if1 .left) (farther .if2 .left) (far .if3 .left) (here .if4 .left) _ _ (c .before .wide3 .ensures) (c .wide4 .ensures)
 
 pub cuttable-spec : {M : Type 1} → statement M
 cuttable-spec =

@@ -21,10 +21,14 @@ offset-requires : tie.Need-offset-requires
 offset-requires c κs = search needs
 
 add-result : tie.Need-add-result
-add-result c = omega (arith, frame-shifted ((c .before .before .before .before .args) .h) (c .before .before .before .before .pre) ((c .before .before .before .before .args) .frame) _ ((c .before .before .before .before .fits) .frame .fits) ((c .before .before .wide) .ensures), frame-small ((c .before .before .before .before .args) .h) (c .before .before .before .before .pre) ((c .before .before .before .before .args) .frame) ((c .before .before .before .before .fits) .frame .fits), offset-low ((c .before .before .before .before .args) .h) (c .before .before .before .before .pre) _ _ ((c .offset) .ensures), page-small ((c .before .before .before .before .args) .h) (c .before .before .before .before .pre))
+add-result c =
+    let here = c .before .before in
+    omega (arith, frame-shifted ((here .before .before .args) .h) (here .before .before .pre) ((here .before .before .args) .frame) _ ((here .before .before .fits) .frame .fits) ((here .wide) .ensures), frame-small ((here .before .before .args) .h) (here .before .before .pre) ((here .before .before .args) .frame) ((here .before .before .fits) .frame .fits), offset-low ((here .before .before .args) .h) (here .before .before .pre) _ _ ((c .offset) .ensures), page-small ((here .before .before .args) .h) (here .before .before .pre))
 
 returns : tie.Need-returns
-returns c = ap₂ _+_ (frame-shifted ((c .before .before .before .before .args) .h) (c .before .before .before .before .pre) ((c .before .before .before .before .args) .frame) _ ((c .before .before .before .before .fits) .frame .fits) ((c .before .before .wide) .ensures)) (offset-exact ((c .before .before .before .before .args) .h) (c .before .before .before .before .pre) _ _ ((c .offset) .ensures))
+returns c =
+    let here = c .before .before in
+    ap₂ _+_ (frame-shifted ((here .before .before .args) .h) (here .before .before .pre) ((here .before .before .args) .frame) _ ((here .before .before .fits) .frame .fits) ((here .wide) .ensures)) (offset-exact ((here .before .before .args) .h) (here .before .before .pre) _ _ ((c .offset) .ensures))
 
 pub ram-place-spec : {M : Type 1} → statement M
 ram-place-spec =
