@@ -1,18 +1,20 @@
 -- Calls with an address or a span: the number that the code computes for their refusals 1 to 3 is the machine's, and what its passing says.
 use mathlib.Core.Path.{_≡_, refl, ap, _∙_}
 use mathlib.Core.Bool.{Bool, true, false, _&&_}
+use mathlib.Core.List.{List}
 use Prim.Native.Nat.{ℕ, zero, suc, _+_, _/_, _≤_, _<_}
 use native.Mathlib.Omega.{arith}
 use borrow.Author.Tests.{leb-true, ltb-true}
 use lib.Dec.{ltb, leb}
-use Rattle.machine.specs.Machine.{Sizes, spaceBytes, spanPages, sizesOk, Lent, Uses, uses, enough, firstOf, look, translate, read, asked}
+use lib.ListN.{length}
+use Rattle.machine.specs.Machine.{Sizes, spaceBytes, spanPages, sizesOk, Lent, Uses, uses, enough, firstOf, look, translate, read, write, asked}
 use Rattle.machine.specs.Laws.Sizes.{both, fit, some-bytes, passed, page-below}
 use Rattle.memory.specs.Memory.{Memory, sizesOf, lengths}
 use Rattle.places.specs.Laws.{div-mono}
 use Rattle.laws.specs.Models.{everything, checkOf, lookLengths}
 use Rattle.laws.specs.Checks.{filled, same-lent}
 use Rattle.laws.specs.Refusals.{Long, long}
-use Rattle.laws.specs.Spans.{addressInside, spanInside, readLengths}
+use Rattle.laws.specs.Spans.{addressInside, spanInside, readLengths, writeLengths}
 
 -- ---- the machine's numbers
 
@@ -34,6 +36,10 @@ module _ (k : Memory) (i x : ℕ) where
   pub read-check : (n : ℕ) → checkOf (k .head) (readLengths k) i (spanInside (k .head) x n) ≡ asked (sizesOf (k .head)) (read i x n (lengths k))
   unfolding checkOf spanInside asked
   read-check n = same-check (uses (read i x n (lengths k))) (leb (x + n) (spaceBytes (sizesOf (k .head))))
+
+  pub write-check : (vs : List ℕ) → checkOf (k .head) (writeLengths k) i (spanInside (k .head) x (length vs)) ≡ asked (sizesOf (k .head)) (write i x vs (lengths k))
+  unfolding checkOf spanInside asked
+  write-check vs = same-check (uses (write i x vs (lengths k))) (leb (x + length vs) (spaceBytes (sizesOf (k .head))))
 
 -- ---- what passing says
 

@@ -20,5 +20,8 @@ pub use releasing::release;
 pub use reading::translate;
 // The bytes of a span into the caller's buffer: Copied. Refused, as for the first page that isn't resident: 1, 2, 3; 4; 10; 9.
 pub use reading::read;
+// Stores bytes at a span's addresses, mapping what is absent, all or nothing: Ok. Refused: 1, 2, 3; 4, a page has no region; 8, more absent pages
+// than pool frames; 9.
+pub use writing::write;
 // One record a region of a space: Regions. Refused: 1, 2; 11, fewer records than regions; 9.
 pub use listing::list;

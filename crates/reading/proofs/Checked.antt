@@ -17,7 +17,7 @@ use Rattle.laws.specs.Checking.{Ready, ready}
 use Rattle.laws.specs.Spans.{addressInside, spanInside}
 use Rattle.laws.specs.SpanChecks.{span-page}
 use Rattle.spans.proofs.Shifted.{space-small}
-use Rattle.reading.specs.Spans.{Span}
+use Rattle.spans.specs.Parts.{Span}
 
 -- a page's number fits
 pub page-fits : (h : Head) (b : ℕ) → sizesOk (sizesOf h) ≡ true → b < h .pages → b < 262144

@@ -1,55 +1,25 @@
--- A part of a page, where it lies in RAM and what a copy of it gives; and parts copied one after another.
+-- What a copy of a part of a page gives, and parts copied one after another.
 use mathlib.Core.Path.{_≡_, sym, ap, ap₂, _∙_, subst}
 use mathlib.Core.List.{List, [], _++_, append-nil, append-assoc}
-use Prim.Native.Nat.{ℕ, _+_, _-_, _*_, _/_, _%_, _≤_, _<_, min}
-use native.Mathlib.Nat.{add-zero, mod-lt, mul-le-mul-left, mul-le-mul-right, add-sub-cancel-left}
+use Prim.Native.Nat.{ℕ, _+_, _-_, _*_, _/_, _%_, _≤_, _<_}
+use native.Mathlib.Nat.{add-zero, add-sub-cancel-left}
 use native.Mathlib.Omega.{arith}
 use borrow.Rule.Slice.PartMut.{putMid, same-len-mid}
-use lib.ListN.{length, take, drop, length-append, length-drop, drop-of-length-le}
+use lib.ListN.{length, take, drop, length-append, drop-of-length-le}
 use lib.Seq.{length-take-le, take-at}
 use Rattle.machine.specs.Machine.{Sizes, pageOfAddress, State, pageOf, look, absence}
 use Rattle.machine.specs.Answers.{lookedSays}
 use Rattle.machine.specs.declared.Looked.{Looked}
 use Rattle.machine.specs.declared.Looked.the-variants.{Resident}
-use Rattle.machine.specs.Laws.Sizes.{fit, page-below}
 use Rattle.memory.specs.Memory.{Memory, sizesOf}
-use Rattle.memory.specs.declared.Head.{Head}
 use Rattle.promise.specs.Holds.{Holds}
 use Rattle.promise.specs.Did.{Did}
 use Rattle.laws.specs.Found.{Found, address-found, Residence, residence, residence-below, RefusedAs, refused-is}
 use Rattle.laws.specs.Parts.{part-bytes, OnResident, CopiedOut, FrontCopied, front-none, front-more, front-all}
-use Rattle.spans.proofs.Shifted.{some-page, page-small}
-use Rattle.reading.specs.Spans.{Span, Part}
+use Rattle.spans.specs.Parts.{Part}
+use Rattle.spans.proofs.Parts.{part-page, part-long, next-long}
 
 -- ---- one part
-
-module _ (h : Head) (i x n : ℕ) (ram : List ℕ) (pre : Part h i x n ram) where
-  pub part-page : x / sizesOf h .page < h .pages
-  part-page = page-below (sizesOf h) x (fit (sizesOf h) (pre .span .sizes-ok)) (omega (arith, pre .span .ends, pre .some-bytes))
-
-  pub part-small : n ≤ 65536
-  part-small = omega (arith, pre .fits, page-small h (pre .span .sizes-ok))
-
-  -- in the RAM of frame f
-  module _ (f from : ℕ) (at : from ≡ f * sizesOf h .page + x % sizesOf h .page) (below : f < h .frames) where
-    in-frame : from + n ≤ h .frames * sizesOf h .page
-    in-frame = omega (arith, at, pre .fits, mul-le-mul-right (sizesOf h .page) below)
-
-    pub part-ends : from + n ≤ length ram
-    part-ends = omega (arith, in-frame, pre .span .ram-long)
-
-    pub part-low : from + n ≤ 4294967296
-    part-low =
-        omega (
-          arith,
-          in-frame,
-          mul-le-mul-right (sizesOf h .page) (fit (sizesOf h) (pre .span .sizes-ok) .few-frames),
-          mul-le-mul-left 65536 (page-small h (pre .span .sizes-ok)),
-        )
-
-    pub part-long : length (take (from + n - from) (drop from ram)) ≡ n
-    part-long =
-        length-take-le (from + n - from) (drop from ram) (rw length-drop (omega (arith, part-ends))) ∙ add-sub-cancel-left from n
 
 module _ (k : Memory) (i x n : ℕ) (pre : Part (k .head) i x n (k .ram)) (found : Looked) (looked : Did (look i (x / sizesOf (k .head) .page)) k (lookedSays found) k) where
   found-is : (m : State) → Holds m k → Found m (pageOfAddress (m .sizes) i x) found
@@ -84,27 +54,6 @@ module _ (k : Memory) (i x n : ℕ) (pre : Part (k .head) i x n (k .ram)) (found
         ∙ part-bytes m k h i x n f (residence-is m h) (subst (λ (z : Sizes). x % z .page + n ≤ z .page) (h .sizes-are) (pre .fits))
 
 -- ---- parts one after another
-
--- a part of the buffer that ends within it
-next-long : (buffer : List ℕ) (a b : ℕ) → b ≤ length buffer → length (take (b - a) (drop a buffer)) ≡ b - a
-next-long buffer a b l = length-take-le (b - a) (drop a buffer) (rw length-drop (omega arith))
-
--- the next s of n bytes, of which `done` are copied
-module _ (h : Head) (i x n : ℕ) (ram : List ℕ) (pre : Span h i x n ram) (done s : ℕ) (low : done < n) (is : s ≡ min (sizesOf h .page - (x + done) % sizesOf h .page) (n - done)) where
-  pub next-some : 0 < s
-  next-some = omega (arith, mod-lt (x + done) (some-page h (pre .sizes-ok)))
-
-  pub next-within : done + s ≤ n
-  next-within = omega arith
-
-  pub next-part : (buffer : List ℕ) → length buffer ≡ n → Part h i (x + done) (length (take (done + s - done) (drop done buffer))) ram
-  next-part buffer l =
-      let e = next-long buffer done (done + s) (omega arith) in
-      record {
-        span = record { sizes-ok = pre .sizes-ok; space = pre .space; ends = omega (arith, pre .ends); ram-long = pre .ram-long };
-        some-bytes = omega (arith, next-some);
-        fits = omega (arith, mod-lt (x + done) (some-page h (pre .sizes-ok)));
-      }
 
 -- the loop's state: the first `done` bytes are copied, whatever the link
 pub record Copying (x n : ℕ) (buffer : List ℕ) (done : ℕ) (k : List ℕ → Memory) (i : ℕ) : Type 0 where

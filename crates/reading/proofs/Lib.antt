@@ -1,4 +1,3 @@
 pub mod Checked
-pub mod Absent
 pub mod Looking
 pub mod Copies

@@ -24,7 +24,7 @@ ghost use Rattle.memory.specs.Memory.{memory};
 ghost use Rattle.promise.specs.Did.{Did};
 ghost use Rattle.promise.specs.Filled.{ReadDid};
 ghost use Rattle.laws.specs.Parts.{CopiedOut};
-ghost use Rattle.reading.specs.Spans.{Span, Part};
+ghost use Rattle.spans.specs.Parts.{Span, Part};
 
 // The place in RAM of an address.
 pub fn translate(

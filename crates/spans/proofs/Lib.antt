@@ -1,1 +1,3 @@
 pub mod Shifted
+pub mod Parts
+pub mod Absent

@@ -5,7 +5,8 @@ use native.Mathlib.Omega.{arith}
 use lib.ListN.{length}
 use Rattle.memory.specs.Memory.{memory}
 use Rattle.spans.proofs.Shifted.{space-small}
-use Rattle.reading.proofs.Copies.{next-some, next-within, next-part, Copying, copying-none, copying-more, copying-all}
+use Rattle.spans.proofs.Parts.{next-some, next-within, next-part}
+use Rattle.reading.proofs.Copies.{Copying, copying-none, copying-more, copying-all}
 use borrow.Author.Needs.{needs}
 use Rattle.reading.proofs.copy_out.Statement.{statement}
 use Rattle.reading.proofs.copy_out.Tie as tie

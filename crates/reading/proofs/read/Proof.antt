@@ -8,10 +8,10 @@ use Rattle.memory.specs.Memory.{Memory, memory}
 use Rattle.laws.specs.Models.{checkOf}
 use Rattle.laws.specs.Spans.{spanInside, readLengths}
 use Rattle.laws.specs.Reading.{read-early, read-stopped, read-copied}
-use Rattle.reading.proofs.Absent.{refused-as}
+use Rattle.spans.proofs.Absent.{refused-as}
 use Rattle.reading.proofs.Checked.{page-fits, span-is, pages-low, next-page}
 use Rattle.reading.proofs.Looking.{Looking, looking-none, looking-more}
-use Rattle.reading.specs.Spans.{Span}
+use Rattle.spans.specs.Parts.{Span}
 use borrow.Author.Needs.{needs}
 use Rattle.reading.proofs.read.Statement.{statement}
 use Rattle.reading.proofs.read.Tie as tie

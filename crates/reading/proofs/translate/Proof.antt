@@ -10,7 +10,7 @@ use Rattle.promise.specs.Did.{Did}
 use Rattle.laws.specs.Models.{checkOf, lookLengths}
 use Rattle.laws.specs.Spans.{addressInside}
 use Rattle.laws.specs.Translating.{translate-early, translate-refused, translate-at}
-use Rattle.reading.proofs.Absent.{refused-as}
+use Rattle.spans.proofs.Absent.{refused-as}
 use Rattle.reading.proofs.Checked.{page-fits, address-ready, address-page}
 use borrow.Author.Needs.{needs}
 use Rattle.reading.proofs.translate.Statement.{statement}

@@ -1,4 +1,4 @@
--- What the functions that copy bytes out may take for granted once the checks for refusals 1 to 3 have passed.
+-- What the functions that copy a span's bytes may take for granted once the checks for refusals 1 to 3 have passed.
 use mathlib.Core.Path.{_≡_}
 use mathlib.Core.Bool.{true}
 use mathlib.Core.List.{List}

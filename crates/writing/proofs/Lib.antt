@@ -1,0 +1,4 @@
+pub mod Surveying
+pub mod Touching
+pub mod Storing
+pub mod Written

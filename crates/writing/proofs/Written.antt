@@ -1,0 +1,113 @@
+-- From the check, the survey, the touches and the stores to a write's promise.
+use mathlib.Core.Path.{_≡_, refl, sym, ap, ap₂, _∙_, subst}
+use mathlib.Core.Bool.{Bool, true}
+use mathlib.Core.List.{List}
+use Prim.Native.Nat.{ℕ, _+_, _-_, _*_, _/_, _≤_, _<_}
+use native.Mathlib.Nat.{add-sub-cancel-left}
+use native.Mathlib.Omega.{arith}
+use lib.Dec.{ltb}
+use lib.ListN.{length}
+use Rattle.machine.specs.Machine.{Sizes, sizesOk, spaceBytes, placeOf, spanPages, State, anyOutside, countAbsent, write, asked, done, refused}
+use Rattle.machine.specs.Laws.Sizes.{fit}
+use Rattle.memory.specs.Memory.{Memory, sizesOf, lengths}
+use Rattle.promise.specs.Holds.{Holds}
+use Rattle.promise.specs.Did.{Words, Did}
+use Rattle.laws.specs.Models.{checkOf}
+use Rattle.laws.specs.Spans.{spanInside, writeLengths, AllTouched}
+use Rattle.laws.specs.SpanChecks.{write-check}
+use Rattle.laws.specs.Touches.{all-tables}
+use Rattle.laws.specs.Writing.{Admitted, write-admitted, span-pages-inside, writeRefusal, refusalOf, write-refused, write-done, withBytes}
+use Rattle.spans.specs.Parts.{Span}
+use Rattle.writing.specs.Surveys.{Lookable, Surveyed, Settled}
+use Rattle.writing.specs.Stores.{Stored}
+use Rattle.writing.specs.declared.Tally.{Tally}
+use Rattle.writing.proofs.Surveying.{settles}
+
+-- the number of the check
+pub number-is : (k : Memory) (i x : ℕ) (vs : List ℕ) {no : ℕ} {inside : Bool} → no ≡ checkOf (k .head) (writeLengths k) i inside → inside ≡ spanInside (k .head) x (length vs)
+    → no ≡ asked (sizesOf (k .head)) (write i x vs (lengths k))
+number-is k i x vs e inside-is = e ∙ ap (checkOf (k .head) (writeLengths k) i) inside-is ∙ write-check k i x vs
+
+-- a write that passed, and its span: so many pages from `first` on
+pub record Spanned (k : Memory) (i x : ℕ) (vs : List ℕ) (first pages : ℕ) : Type 0 where
+  pub passes : asked (sizesOf (k .head)) (write i x vs (lengths k)) ≡ 0
+  pub first-is : first ≡ x / sizesOf (k .head) .page
+  pub pages-is : pages ≡ spanPages (sizesOf (k .head)) x (length vs)
+
+-- the number that settles it: none of 1 to 3, and on honest memory the machine's
+pub record Decided (k : Memory) (i x : ℕ) (vs : List ℕ) (short : ℕ) : Type 0 where
+  pub late : (short ≡ 0 → ⊥) → 4 ≤ short
+  pub is : (m : State) → Holds m k → short ≡ refusalOf m i x (length vs)
+
+module _ {k : Memory} {i x : ℕ} {vs : List ℕ} {first pages : ℕ} (s : Spanned k i x vs first pages) where
+  abbrev z : Sizes
+  z = sizesOf (k .head)
+
+  pub admitted : Admitted (sizesOf (k .head)) i x vs (lengths k)
+  admitted = write-admitted (sizesOf (k .head)) i x vs (lengths k) (s .passes)
+
+  end-inside : first + pages ≤ k .head .pages
+  end-inside = omega (arith, span-pages-inside z (fit z (admitted .sizes-ok)) x (length vs) (admitted .fits), s .first-is, s .pages-is)
+
+  pub end-small : first + pages ≤ 262144
+  end-small = omega (arith, end-inside, fit z (admitted .sizes-ok) .few-pages)
+
+  pub lookable : Lookable (k .head) i (first + pages) (k .index) (k .count) (k .table) (k .helper) (k .stack) (k .cache)
+  lookable b l =
+      let g = admitted .lent in
+      record {
+        sizes-ok = admitted .sizes-ok;
+        space = admitted .space;
+        page = omega (arith, end-inside);
+        index-long = g .index refl;
+        count-long = g .count refl;
+        table-long = g .table refl;
+        helper-long = g .helper refl;
+        stack-long = g .stack refl;
+        cache-long = g .cache refl;
+      }
+
+  count-is : first + pages - first ≡ spanPages z x (length vs)
+  count-is = add-sub-cancel-left first pages ∙ s .pages-is
+
+  pub decided : {seen : Tally} {short : ℕ} → Surveyed (k .head) i first (first + pages) (k .index) (k .count) (k .table) (k .helper) (k .stack) (k .cache) seen
+      → Settled (k .head) seen short → Decided k i x vs short
+  decided {seen} surveyed settled =
+      record {
+        late = settled .late (surveyed .late);
+        is = λ m H.
+            settled .honest (k .index) (k .count) (k .table) (k .helper) (k .stack) (k .cache) (k .link) (k .ram) m H
+            ∙ settles m (placeOf (m .sizes) i first) (first + pages - first) seen (surveyed .honest (k .link) (k .ram) m H)
+            ∙ ap₂ (λ (b n : ℕ). writeRefusal (anyOutside m (placeOf (m .sizes) i b) n) (ltb (length (m .pool)) (countAbsent m (placeOf (m .sizes) i b) n)))
+            (s .first-is ∙ ap (λ (y : Sizes). x / y .page) (H .sizes-are))
+            (count-is ∙ ap (λ (y : Sizes). spanPages y x (length vs)) (H .sizes-are));
+      }
+
+  pub refused-short : {short : ℕ} → Decided k i x vs short → (short ≡ 0 → ⊥) → Did (write i x vs) k (refused short 0) k
+  refused-short d not-none = write-refused i x vs k (s .passes) _ (d .late not-none) (d .is)
+
+  -- ---- once every page is touched
+
+  module _ {k₁ : Memory} (touched : AllTouched i first k (first + pages - first) k₁) where
+    sizes-stay : sizesOf (k₁ .head) ≡ sizesOf (k .head)
+    sizes-stay = all-tables touched .sizes
+
+    pub next-span : Span (k₁ .head) i x (length vs) (k .ram)
+    next-span =
+        let back = sym sizes-stay in
+        record {
+          sizes-ok = subst (λ (y : Sizes). sizesOk y ≡ true) back (admitted .sizes-ok);
+          space = subst (λ (y : Sizes). i < y .spaces) back (admitted .space);
+          ends = subst (λ (y : Sizes). x + length vs ≤ spaceBytes y) back (admitted .fits);
+          ram-long = subst (λ (y : Sizes). y .frames * y .page ≤ length (k .ram)) back (admitted .lent .ram refl);
+        }
+
+    pub written : {short : ℕ} → Decided k i x vs short → short ≡ 0 → k₁ .index ≡ k .index → {ram : List ℕ}
+        → Stored (k₁ .head) i x vs (k₁ .index) (k₁ .count) (k₁ .table) (k₁ .helper) (k₁ .stack) (k₁ .cache) (k .ram) ram → Did (write i x vs) k done (withBytes k₁ ram)
+    written d none index {ram} stores =
+        write-done i x vs k (s .passes) k₁ ram
+        (subst (λ (b : ℕ). AllTouched i b k (spanPages z x (length vs)) k₁) (s .first-is) (subst (λ (n : ℕ). AllTouched i first k n k₁) count-is touched))
+        index
+        (subst (λ (y : Sizes). Words (length vs) (y .frames * y .page) (k .ram) ram) sizes-stay (stores .words))
+        (λ m H. sym none ∙ d .is m H)
+        (λ m H on. stores .honest (k₁ .link) (k₁ .ram) m H on)

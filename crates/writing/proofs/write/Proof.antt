@@ -1,0 +1,159 @@
+-- The check, the survey, the touches, the stores.
+use mathlib.Core.Path.{_≡_, refl, sym, _∙_}
+use native.Mathlib.Omega.{arith}
+use borrow.Author.Needs.{needs}
+use Rattle.machine.specs.Machine.{write, asked}
+use Rattle.memory.specs.Memory.{Memory, memory, sizesOf, lengths}
+use Rattle.laws.specs.Told.{early-refused}
+use Rattle.laws.specs.Writing.{write-admitted}
+use Rattle.writing.proofs.Written.{number-is, Spanned, Decided, admitted, end-small, lookable, decided, refused-short, next-span, written}
+use Rattle.writing.proofs.write.Statement.{statement}
+use Rattle.writing.proofs.write.Tie as tie
+
+-- the memory lent
+abbrev lent : tie.Start → Memory
+lent s =
+    let a = s .args in
+    memory (a .head) (a .index .now) (a .count .now) (a .table .now) (a .helper .now) (a .stack .now) (a .cache .now) (a .link .now) (a .ram .now)
+
+abbrev entry : tie.After-check → tie.Start
+entry c = c .before .before .before .before .before .before .before .before .before .before .before
+
+abbrev checked : tie.After-pages → tie.After-check
+checked c = c .before .before .before
+
+abbrev paged : tie.After-settled → tie.After-pages
+paged c = c .before .before .before .before .before .before .before
+
+abbrev accepted : tie.After-touch-all → tie.Else2
+accepted c = c .before .before .before .before .before .before .before
+
+abbrev touched : tie.After-store-arg6 → tie.After-touch-all
+touched c = c .before .before .before .before .before .before .before .before .before .before .before .before .before .before .before .before .before .before
+
+number : (c : tie.After-check)
+    → let s = entry c in
+    c .check .result ≡ asked (sizesOf (s .args .head)) (write (s .args .space) (s .args .address) (s .args .bytes .now) (lengths (lent s)))
+number c = let s = entry c in number-is (lent s) (s .args .space) (s .args .address) (s .args .bytes .now) (c .check .ensures) (c .before .span-inside .ensures)
+
+passes : (c : tie.Else1)
+    → let s = entry (c .before) in
+    asked (sizesOf (s .args .head)) (write (s .args .space) (s .args .address) (s .args .bytes .now) (lengths (lent s))) ≡ 0
+passes c = sym (number (c .before)) ∙ c .if1 .left
+
+span : (c : tie.After-pages)
+    → let s = entry (checked c) in
+    Spanned (lent s) (s .args .space) (s .args .address) (s .args .bytes .now) (c .before .page-of .result) (c .pages .result)
+span c = record { passes = passes (c .before .before); first-is = c .before .page-of .ensures; pages-is = c .pages .ensures }
+
+decision : (c : tie.After-settled)
+    → let s = entry (checked (paged c)) in
+    Decided (lent s) (s .args .space) (s .args .address) (s .args .bytes .now) (c .settled .result)
+decision c = decided (span (paged c)) (c .before .survey .ensures) (c .settled .ensures)
+
+span-inside-requires : tie.Need-span-inside-requires
+span-inside-requires c κs = search needs
+
+check-requires : tie.Need-check-requires
+check-requires c κs = search needs
+
+returns : tie.Need-returns
+returns c = early-refused (write _ _ _) (lent (entry (c .before))) _ (number (c .before)) (c .if1 .taken)
+
+page-of-requires : tie.Need-page-of-requires
+page-of-requires c κs = write-admitted _ _ _ _ _ (passes c) .sizes-ok
+
+pages-requires : tie.Need-pages-requires
+pages-requires c κs = let a = write-admitted _ _ _ _ _ (passes (c .before)) in (a .sizes-ok, a .fits)
+
+add-end : tie.Need-add-end
+add-end c = omega (arith, end-small (span c))
+
+survey-requires : tie.Need-survey-requires
+survey-requires c κs = (omega arith, lookable (span (c .before .before .before .before .before)))
+
+settled-requires : tie.Need-settled-requires
+settled-requires c κs = admitted (span (c .before .before .before .before .before .before)) .sizes-ok
+
+same-length : tie.Need-same-length
+same-length c = search needs
+
+same-length-2 : tie.Need-same-length-2
+same-length-2 c = search needs
+
+same-length-3 : tie.Need-same-length-3
+same-length-3 c = search needs
+
+same-length-4 : tie.Need-same-length-4
+same-length-4 c = search needs
+
+same-length-5 : tie.Need-same-length-5
+same-length-5 c = search needs
+
+returns-2 : tie.Need-returns-2
+returns-2 c = refused-short (span (paged (c .before))) (decision (c .before)) (c .if2 .taken)
+
+touch-all-requires : tie.Need-touch-all-requires
+touch-all-requires c κs = (omega arith, end-small (span (paged (c .before .before .before .before .before .before .before))))
+
+store-requires : tie.Need-store-requires
+store-requires c κs =
+    let t = touched c in
+    let p = paged (accepted t .before) in
+    next-span (span p) (t .touch-all .ensures (entry (checked p) .args .ram .now))
+
+same-length-6 : tie.Need-same-length-6
+same-length-6 c = search needs
+
+same-length-7 : tie.Need-same-length-7
+same-length-7 c = search needs
+
+same-length-8 : tie.Need-same-length-8
+same-length-8 c = search needs
+
+same-length-9 : tie.Need-same-length-9
+same-length-9 c = search needs
+
+same-length-10 : tie.Need-same-length-10
+same-length-10 c = search needs
+
+same-length-11 : tie.Need-same-length-11
+same-length-11 c = search needs
+
+same-length-12 : tie.Need-same-length-12
+same-length-12 c = search needs
+
+returns-3 : tie.Need-returns-3
+returns-3 c =
+    let t = touched (c .before .before .before) in
+    let p = paged (accepted t .before) in
+    written (span p) (t .touch-all .ensures (entry (checked p) .args .ram .now)) (decision (accepted t .before)) (accepted t .if2 .left) refl (c .before .before .store .ensures)
+
+pub write-spec : {M : Type 1} → statement M
+write-spec =
+    tie.close
+    (tie.spec
+    span-inside-requires
+    check-requires
+    returns
+    page-of-requires
+    pages-requires
+    add-end
+    survey-requires
+    settled-requires
+    same-length
+    same-length-2
+    same-length-3
+    same-length-4
+    same-length-5
+    returns-2
+    touch-all-requires
+    store-requires
+    same-length-6
+    same-length-7
+    same-length-8
+    same-length-9
+    same-length-10
+    same-length-11
+    same-length-12
+    returns-3)

@@ -1,0 +1,93 @@
+-- The page's look, and a copy into its frame's part of the RAM.
+use mathlib.Core.Path.{refl}
+use native.Mathlib.Omega.{arith}
+use borrow.Author.Needs.{needs}
+use Rattle.machine.specs.Laws.Sizes.{fit}
+use Rattle.spans.proofs.Absent.{refused-as}
+use Rattle.spans.proofs.Parts.{part-page, part-small, part-low, part-ends, part-long}
+use Rattle.writing.proofs.Storing.{part-refused, part-beyond, part-stored}
+use Rattle.writing.proofs.write_part.Statement.{statement}
+use Rattle.writing.proofs.write_part.Tie as tie
+
+abbrev entry : tie.After-page-of → tie.Start
+entry c = c .before .before .before .before .before .before .before .before .before
+
+-- the look before the frame's place was computed
+abbrev look-of : tie.After-ram-place → tie.After-look
+look-of c = c .before .before .before .before .before .before
+
+page-of-requires : tie.Need-page-of-requires
+page-of-requires c κs = search needs
+
+cast-look : tie.Need-cast-look
+cast-look c =
+    let pre = entry c .pre in
+    omega (arith, c .page-of .ensures, part-page _ _ _ _ _ pre, fit _ (pre .span .sizes-ok) .few-pages)
+
+look-requires : tie.Need-look-requires
+look-requires c κs = search needs
+
+enum-known-found : tie.Need-enum-known-found
+enum-known-found c = search needs
+
+returns : tie.Need-returns
+returns c =
+    let l = c .before in
+    part-refused _ _ _ _ _ _ _ _ _ _ _ (entry (l .before) .pre) (l .look .result) _ (l .before .page-of .ensures) (l .look .ensures) _
+    (refused-as (l .look .result) _ refl (c .match .keys2))
+
+returns-2 : tie.Need-returns-2
+returns-2 c =
+    let l = c .before .before .before .before .before in
+    part-beyond _ _ _ _ _ _ _ _ _ _ _ (entry (l .before) .pre) (l .look .result) _ (l .before .page-of .ensures) (l .look .ensures) _
+    (c .before .before .before .found .given .1) (c .if1 .taken)
+
+ram-place-requires : tie.Need-ram-place-requires
+ram-place-requires c κs = search needs
+
+add-to : tie.Need-add-to
+add-to c = omega (arith, part-low _ _ _ _ _ (entry (look-of c .before) .pre) _ _ (c .ram-place .ensures) (c .before .if1 .left))
+
+sub-copy : tie.Need-sub-copy
+sub-copy c = search needs
+
+part-copy-start : tie.Need-part-copy-start
+part-copy-start c = search needs
+
+part-copy-end : tie.Need-part-copy-end
+part-copy-end c = omega (arith, part-ends _ _ _ _ _ (entry (look-of c .before) .pre) _ _ (c .ram-place .ensures) (c .before .if1 .left))
+
+copy-requires : tie.Need-copy-requires
+copy-requires c κs =
+    let p = c .before in
+    let pre = entry (look-of p .before) .pre in
+    (omega (arith, part-small _ _ _ _ _ pre), omega (arith, part-long _ _ _ _ _ pre _ _ (p .ram-place .ensures) (p .before .if1 .left)))
+
+same-length : tie.Need-same-length
+same-length c = search needs
+
+returns-3 : tie.Need-returns-3
+returns-3 c =
+    let p = c .before .before .before .before in
+    let l = look-of p in
+    part-stored _ _ _ _ _ _ _ _ _ _ _ (entry (l .before) .pre) (l .look .result) _ (l .before .page-of .ensures) (l .look .ensures) _
+    (p .before .before .before .before .found .given .1) _ _ (p .ram-place .ensures) (p .before .if1 .left) (c .before .before .copy .ensures)
+
+pub write-part-spec : {M : Type 1} → statement M
+write-part-spec =
+    tie.close
+    (tie.spec
+    page-of-requires
+    cast-look
+    look-requires
+    enum-known-found
+    returns
+    returns-2
+    ram-place-requires
+    add-to
+    sub-copy
+    part-copy-start
+    part-copy-end
+    copy-requires
+    same-length
+    returns-3)

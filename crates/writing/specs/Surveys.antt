@@ -1,0 +1,46 @@
+-- What the survey of a span's pages says, and the number that settles a write before its first touch.
+use mathlib.Core.Path.{_≡_}
+use mathlib.Core.Bool.{true, false, cond}
+use mathlib.Core.List.{List}
+use Prim.Native.Nat.{ℕ, _-_, _≤_, _<_}
+use lib.Dec.{ltb}
+use lib.ListN.{length}
+use Rattle.machine.specs.Machine.{State, placeOf, anyOutside, countAbsent}
+use Rattle.memory.specs.Memory.{memory}
+use Rattle.memory.specs.declared.Head.{Head}
+use Rattle.promise.specs.Holds.{Holds}
+use Rattle.lookup.specs.Ready.{Ready}
+use Rattle.writing.specs.declared.Tally as tally
+use Rattle.writing.specs.declared.Tally.the-variants as tally-is
+
+-- every page of space i before `end` can be looked up
+abbrev pub Lookable : Head → ℕ → ℕ → List ℕ → List ℕ → List ℕ → List ℕ → List ℕ → List ℕ → Type 0
+Lookable h i end index count table helper stack cache = (b : ℕ) → b < end → Ready h i b index count table helper stack cache
+
+-- none of refusals 1 to 3
+abbrev pub Late : tally.Tally → Type 0
+Late (tally-is.Absent c) = Unit {0}
+Late (tally-is.Refused n) = 4 ≤ n
+
+-- of k pages from place p on
+abbrev pub TallyIs : State → ℕ → ℕ → tally.Tally → Type 0
+TallyIs m p k (tally-is.Absent c) = (anyOutside m p k ≡ false) × (c ≡ countAbsent m p k)
+TallyIs m p k (tally-is.Refused n) = (anyOutside m p k ≡ true) × (n ≡ 4)
+
+-- of the pages of space i from `first` to before `end`
+pub record Surveyed (h : Head) (i first end : ℕ) (index count table helper stack cache : List ℕ) (r : tally.Tally) : Type 0 where
+  -- on any memory
+  pub late : Late r
+  pub honest : (link ram : List ℕ) (m : State) → Holds m (memory h index count table helper stack cache link ram)
+      → TallyIs m (placeOf (m .sizes) i first) (end - first) r
+
+-- with n frames in the pool
+abbrev pub settledBy : ℕ → tally.Tally → ℕ
+settledBy n (tally-is.Absent c) = cond (ltb n c) 8 0
+settledBy n (tally-is.Refused k) = k
+
+pub record Settled (h : Head) (s : tally.Tally) (r : ℕ) : Type 0 where
+  -- on any memory
+  pub late : Late s → (r ≡ 0 → ⊥) → 4 ≤ r
+  pub honest : (index count table helper stack cache link ram : List ℕ) (m : State) → Holds m (memory h index count table helper stack cache link ram)
+      → r ≡ settledBy (length (m .pool)) s
