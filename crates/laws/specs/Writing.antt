@@ -21,6 +21,7 @@ use Rattle.laws.specs.SpanChecks.{page-of-byte}
 use Rattle.laws.specs.Refusals.{Long, long, passed-step}
 use Rattle.laws.specs.Told.{told-did}
 use Rattle.laws.specs.Touches.{all-tables, all-touched-holds}
+use Rattle.laws.specs.Storing.{SpanMapped}
 
 -- ---- the check
 
@@ -124,7 +125,7 @@ module _ (i x : ℕ) (vs : List ℕ) (k : Memory) (passes : asked (sizesOf (k .h
       (index : k₁ .index ≡ k .index)
       (words : Words (length vs) (sizesOf (k .head) .frames * sizesOf (k .head) .page) (k .ram) ram)
       (settled : (m : State) → Holds m k → 0 ≡ refusalOf m i x (length vs))
-      (stores : (m₁ : State) → Holds m₁ k₁ → ((j : ℕ) → j < length vs → IsMapped m₁ (pageOfAddress (m₁ .sizes) i (x + j))) → ram ≡ stored m₁ i x vs (k .ram)) where
+      (stores : (m₁ : State) → Holds m₁ k₁ → SpanMapped m₁ i x (length vs) → ram ≡ stored m₁ i x vs (k .ram)) where
     honest : (m : State) → Holds m k → Holds (storeAll (spanTouched m i x (length vs)) i x vs) (withBytes k₁ ram)
     honest m h =
         let z = m .sizes in
@@ -138,7 +139,7 @@ module _ (i x : ℕ) (vs : List ℕ) (k : Memory) (passes : asked (sizesOf (k .h
         let h₁ = all-touched-holds m h (a .space) (span-pages-inside z f x n (a .fits)) (subst (λ y. AllTouched i (x / y .page) k (spanPages y x n) k₁) (h .sizes-are) touched) in
         let g = grown-all-touched m p q (h .sound) .sizes-same in
         let s = none-refused (spanOutside m i x (length vs)) (spanShort m i x (length vs)) (settled m h) in
-        let mapped : (j : ℕ) → j < n → IsMapped m₁ (pageOfAddress (m₁ .sizes) i (x + j)) =
+        let mapped : SpanMapped m₁ i x n =
         λ j l.
         let b = span-page z f x i n j (a .sizes-ok) l in
         subst (IsMapped m₁) (b .2 ∙ ap (λ y. pageOfAddress y i (x + j)) (sym g)) (span-mapped m p q (h .sound) (s .0) (ltb-false (length (m .pool)) (countAbsent m p q) (s .1)) (b .0) (b .1)) in

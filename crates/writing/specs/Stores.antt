@@ -1,18 +1,14 @@
 -- What storing the bytes of a span, or of a page's part of it, does to the RAM.
 use mathlib.Core.Path.{_≡_}
 use mathlib.Core.List.{List}
-use Prim.Native.Nat.{ℕ, _+_, _*_, _<_}
+use Prim.Native.Nat.{ℕ, _*_}
 use lib.ListN.{length}
-use Rattle.machine.specs.Machine.{State, pageOfAddress, stored}
-use Rattle.machine.specs.Laws.Stays.{IsMapped}
+use Rattle.machine.specs.Machine.{State, stored}
 use Rattle.memory.specs.Memory.{memory, sizesOf}
 use Rattle.memory.specs.declared.Head.{Head}
 use Rattle.promise.specs.Holds.{Holds}
 use Rattle.promise.specs.Did.{Words}
-
--- the page of each of n addresses is mapped
-abbrev pub SpanMapped : State → ℕ → ℕ → ℕ → Type 0
-SpanMapped m i x n = (j : ℕ) → j < n → IsMapped m (pageOfAddress (m .sizes) i (x + j))
+use Rattle.laws.specs.Storing.{SpanMapped}
 
 pub record Stored (h : Head) (i x : ℕ) (vs index count table helper stack cache ram ram′ : List ℕ) : Type 0 where
   -- on any memory

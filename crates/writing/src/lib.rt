@@ -26,8 +26,8 @@ ghost use Rattle.machine.specs.Answers.{doneSays};
 ghost use Rattle.memory.specs.Memory.{memory, sizesOf};
 ghost use Rattle.promise.specs.Did.{Did};
 ghost use Rattle.laws.specs.Spans.{AllTouched};
-ghost use Rattle.writing.specs.Surveys.{Lookable, Surveyed, Settled};
 ghost use Rattle.spans.specs.Parts.{Span, Part};
+ghost use Rattle.writing.specs.Surveys.{Lookable, Surveyed, Settled};
 ghost use Rattle.writing.specs.Stores.{Stored};
 
 // How many pages of a span are absent, or the refusal of one that has no region.
@@ -118,12 +118,12 @@ fn touch_all(
         (memory r (now (index .entry)) (now (count .exit)) (now (table .exit)) (now (helper .exit)) (now (stack .exit)) (now (cache .exit)) (now (link .exit)) ram)) ⌝ }
 {
     let mut after = head;
-    let mut page = first;
-    while page < end {
+    let mut next = first;
+    while next < end {
         let out = touch(
             after,
             space,
-            page as u32,
+            next as u32,
             index,
             count,
             table,
@@ -133,7 +133,7 @@ fn touch_all(
             link,
         );
         after = out.head;
-        page += 1;
+        next += 1;
     }
     after
 }

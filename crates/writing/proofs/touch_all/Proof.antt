@@ -8,13 +8,13 @@ use Rattle.writing.proofs.touch_all.Statement.{statement}
 use Rattle.writing.proofs.touch_all.Tie as tie
 
 abbrev Inv-loop : tie.InvT-loop
-Inv-loop space first end index count₀ table₀ helper₀ stack₀ cache₀ link₀ after₀ page₀ count table helper stack cache link after page =
-    SoFar space first end page (λ ram. memory after₀ index count₀ table₀ helper₀ stack₀ cache₀ link₀ ram)
+Inv-loop space first end index count₀ table₀ helper₀ stack₀ cache₀ link₀ after₀ next₀ count table helper stack cache link after next =
+    SoFar space first end next (λ ram. memory after₀ index count₀ table₀ helper₀ stack₀ cache₀ link₀ ram)
     (λ ram. memory after index count table helper stack cache link ram)
 
 abbrev μ-loop : tie.MeasureT-loop
-μ-loop space first end index count₀ table₀ helper₀ stack₀ cache₀ link₀ after₀ page₀ count table helper stack cache link after page =
-    end - page
+μ-loop space first end index count₀ table₀ helper₀ stack₀ cache₀ link₀ after₀ next₀ count table helper stack cache link after next =
+    end - next
 
 abbrev entry : tie.In-loop Inv-loop μ-loop → tie.Start Inv-loop μ-loop
 entry c = c .before .before .before .before .before .before .before .before .before
@@ -36,8 +36,8 @@ cast-touch c = omega (arith, entry c .pre .1)
 touch-requires : tie.Need-touch-requires Inv-loop μ-loop
 touch-requires c κs = search needs
 
-add-page : tie.Need-add-page Inv-loop μ-loop
-add-page c = let t = turn (touch-of c) in omega (arith, t .loop-test .taken, entry t .pre .1)
+add-next : tie.Need-add-next Inv-loop μ-loop
+add-next c = let t = turn (touch-of c) in omega (arith, t .loop-test .taken, entry t .pre .1)
 
 loop-less : tie.Need-loop-less Inv-loop μ-loop
 loop-less c = let t = turn (touch-of c) in omega (arith, t .loop-test .taken)
@@ -75,7 +75,7 @@ touch-all-spec =
     loop-holds
     cast-touch
     touch-requires
-    add-page
+    add-next
     loop-less
     loop-again
     same-length
