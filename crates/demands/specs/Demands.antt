@@ -22,7 +22,7 @@ use Rattle.demands.specs.History.{Event, calls, Step, Run}
 -- and none has a `requires`; the rest, of every call on any memory:
 
 pub record Demand1 (c : Lent → Call) (k : Memory) (a : Answer) (k′ : Memory) : Type 0 where
-  pub numbers : Exactly (asked (sizesOf (k .head)) (c (lengths k))) a
+  pub numbers : Exactly (asked (sizesOf (k .head)) (c (lengths k))) (c (lengths k)) a
   pub refusals : (n w : ℕ) → a ≡ refused n w → k′ ≡ k
 
 -- "Every refusal leaves .. the read buffer and the record slice as they stood"

@@ -1,5 +1,6 @@
 -- Listing a space from its end: the records of the pages before a place split at the last start among them; and the answers of list.
 use mathlib.Core.Path.{_≡_, refl, sym, ap, _∙_}
+use mathlib.Core.Logic.{inl, inr}
 use mathlib.Core.Bool.{Bool, true, false, cond}
 use mathlib.Core.List.{List, [], _∷_, _++_}
 use Prim.Native.Nat.{ℕ, zero, suc, _+_, _-_, _*_, _/_, _≤_, _<_}
@@ -116,7 +117,7 @@ module _ (i : ℕ) (k : Memory) (slice : List ℕ) where
       record { did = early-did (list i room) k n (sym (e ∙ list-check k i room)); kept = λ _ _. refl; after-last = refl }
 
   module _ (n : ℕ) (checked : n ≡ checkOf (k .head) (markLengths k) i true) (passes : n ≡ 0) where
-    listed : (a : Answer) → Later a → ((m : State) → Holds m k → a ≡ listIf (recordsOf m i) (leb (length (recordsOf m i)) room)) → Did (list i room) k a k
+    listed : (a : Answer) → Later (list i room (lengths k)) a → ((m : State) → Holds m k → a ≡ listIf (recordsOf m i) (leb (length (recordsOf m i)) room)) → Did (list i room) k a k
     unfolding accepted
     listed a later says =
         let c = list i room (lengths k) in
@@ -130,7 +131,7 @@ module _ (i : ℕ) (k : Memory) (slice : List ℕ) where
       pub list-short : room < many → ListDid i k (Refused 11) slice slice
       list-short h =
           record {
-            did = listed _ (omega arith) (λ m o. rw (← counted m o, lt-leb many room h));
+            did = listed _ (inr (inl refl)) (λ m o. rw (← counted m o, lt-leb many room h));
             kept = λ _ _. refl;
             after-last = refl;
           }

@@ -19,7 +19,7 @@ use Rattle.laws.specs.Spans.{spanInside, readLengths}
 use Rattle.laws.specs.SpanChecks.{Reached, read-check, read-reached, span-page, page-of-byte}
 use Rattle.laws.specs.Found.{looked-later, Found, page-found, residence, RefusedAs, refused-later, refused-is}
 use Rattle.laws.specs.Passing.{look-passes}
-use Rattle.laws.specs.Told.{early-refused, told-did}
+use Rattle.laws.specs.Told.{from-four, early-refused, told-did}
 use Rattle.laws.specs.Parts.{OnResident, CopiedOut}
 
 -- ---- the first absence, page by page
@@ -124,10 +124,11 @@ module _ (i x : ℕ) (k : Memory) (buffer : List ℕ) (r : ℕ) (checked : r ≡
       read-stopped b l t before found looked n e =
           let p = span-page z x (length buffer) b (reached .sizes-ok) (reached .ends) (omega arith) (omega arith) in
           let later = looked-later i b k _ (look-passes z i b (lengths k) (reached .sizes-ok) (reached .space) p (reached .lent)) looked in
-          let low = refused-later found n e later in
+          let given = refused-later i b (lengths k) found n e later in
+          let low = from-four _ _ _ n (omega arith) (omega arith) (omega arith) given in
           record {
             did =
-                told-did (read i x (length buffer)) k (refused n 0) passes low tt
+                told-did (read i x (length buffer)) k (refused n 0) passes given tt
                 (λ m h.
                 ap (λ (c : ℕ). tell m (readIf m i x (length buffer) c))
                 (absence-is m h n (stopped-at k i first b l before (reached .space) p found looked n count e low t m h))

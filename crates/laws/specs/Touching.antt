@@ -1,5 +1,6 @@
 -- A touch keeps the promise.
 use mathlib.Core.Path.{_≡_, refl, sym, ap, _∙_, subst}
+use mathlib.Core.Logic.{inl, inr}
 use mathlib.Core.Bool.{Bool, true, false, _&&_, true≢false}
 use mathlib.Core.List.{List, [], _∷_}
 use Prim.Native.Nat.{ℕ, zero, suc, _+_, _≤_, _<_}
@@ -11,7 +12,7 @@ use lib.Seq.{drop-set-lt}
 use Rattle.sequence.specs.Changes.{changed-set}
 use Rattle.index.specs.Answers as index
 use Rattle.index.specs.Promise.{Bounded}
-use Rattle.machine.specs.Machine.{Sizes, places, placeOf, State, wordsAt, Page, unmapped, pageOf, touch, asked, Answer, refused, Out, touchNew, touchPage, touchAt, accepted, answer, after}
+use Rattle.machine.specs.Machine.{Sizes, places, placeOf, State, Lent, wordsAt, Page, unmapped, pageOf, touch, asked, Answer, refused, Out, touchNew, touchPage, touchAt, accepted, answer, after}
 use Rattle.machine.specs.Laws.Sizes.{both}
 use Rattle.memory.specs.Memory.{Memory, at, sizesOf, lengths}
 use Rattle.memory.specs.declared.Head.{Head}
@@ -20,7 +21,7 @@ use Rattle.memory.specs.declared.Sight.the-variants as sight-is
 use Rattle.memory.specs.declared.Plan.{Plan}
 use Rattle.memory.specs.declared.Plan.the-variants as plan-is
 use Rattle.promise.specs.Holds.{Holds}
-use Rattle.promise.specs.Did.{Later, still, Words, Tables, Follows, Did}
+use Rattle.promise.specs.Did.{Among, Later, still, Words, Tables, Follows, Did}
 use Rattle.laws.specs.Models.{residentOk, sightMapped, sightIn, sightFound, SeenIf, Seen, SeenAt, emptyPool, nextOk, fitOk, planIf, planFor, takenFrom, taken, mapPage, planSays, planLeaves, planOf, Touches, TouchDone}
 use Rattle.laws.specs.Refusals.{words-none, tables-none, passed-step, checked-did, touch-admitted, check-passes}
 use Rattle.laws.specs.Checks.{touch-check}
@@ -111,30 +112,30 @@ map-bounds k p a g =
 
 -- ---- on any memory: what a plan does
 
--- a plan refuses with no number below 4, and maps only inside the tables
+-- a plan refuses with a number of touch, and maps only inside the tables
 abbrev Sane : Memory → ℕ → Plan → Type 0
 Sane k p (plan-is.Old f) = Unit {0}
 Sane k p (plan-is.New a c) = Inside k p a
-Sane k p (plan-is.Refused n c) = 4 ≤ n
+Sane k p (plan-is.Refused n c) = Among (4 ∷ 8 ∷ 9 ∷ []) n
 
 plan-sane : (k : Memory) (i b : ℕ) → asked (sizesOf (k .head)) (touch i b (lengths k)) ≡ 0 → (s : Sight) → SeenAt k i b s
     → Sane k (placeOf (sizesOf (k .head)) i b) (planOf k s)
 plan-sane k i b e (sight-is.Mapped f) seen = tt
-plan-sane k i b e (sight-is.Outside c) seen = omega arith
-plan-sane k i b e sight-is.Broken seen = omega arith
+plan-sane k i b e (sight-is.Outside c) seen = inl refl
+plan-sane k i b e sight-is.Broken seen = inr (inr (inl refl))
 plan-sane k i b e (sight-is.Unmapped a c) seen = go (emptyPool (k .head)) (fitOk (k .head) (k .count) (k .stack) (places (sizesOf (k .head))) a) refl refl
   where
     go : (empty fits : Bool) → emptyPool (k .head) ≡ empty → fitOk (k .head) (k .count) (k .stack) (places (sizesOf (k .head))) a ≡ fits
         → Sane k (placeOf (sizesOf (k .head)) i b) (planIf empty fits a c)
-    go true fits l f = omega arith
+    go true fits l f = inr (inl refl)
     go false true l f = new-inside k i b e a c seen l f
-    go false false l f = omega arith
+    go false false l f = inr (inr (inl refl))
 
 module _ (k : Memory) (p : ℕ) where
-  plan-later : (x : Plan) → Sane k p x → Later (planSays x k)
-  plan-later (plan-is.Old f) g = tt
-  plan-later (plan-is.New a c) g = tt
-  plan-later (plan-is.Refused n c) g = g
+  plan-later : (i b : ℕ) (l : Lent) (x : Plan) → Sane k p x → Later (touch i b l) (planSays x k)
+  plan-later i b l (plan-is.Old f) g = tt
+  plan-later i b l (plan-is.New a c) g = tt
+  plan-later i b l (plan-is.Refused n c) g = g
 
   plan-still : (x : Plan) → still (planSays x k) ≡ true → planLeaves x k p ≡ k
   plan-still (plan-is.Old f) e = refl
@@ -195,7 +196,7 @@ touch-did i b k a k′ d =
     let g = plan-sane k i b e (r .sight) (r .seen) in
     rw (r .answer-is, r .after-is)
     (record {
-      asks = rw e (plan-later k p x g);
+      asks = rw e (plan-later k p i b (lengths k) x g);
       stays = plan-still k p x;
       bounds = plan-bounds k p x g;
       honest = λ m h _. touch-honest i b k e (r .sight) (r .seen) m h;

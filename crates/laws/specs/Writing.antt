@@ -1,7 +1,7 @@
 -- A write keeps the promise: refused before the first touch, or all touched and all stored.
 use mathlib.Core.Path.{_≡_, refl, sym, ap, _∙_, subst}
 use mathlib.Core.Bool.{Bool, true, false, _&&_}
-use mathlib.Core.List.{List}
+use mathlib.Core.List.{List, [], _∷_}
 use Prim.Native.Nat.{ℕ, zero, suc, _+_, _-_, _*_, _/_, _≤_, _<_}
 use native.Mathlib.Nat.{div-lt-iff-lt-mul}
 use native.Mathlib.Omega.{arith}
@@ -15,11 +15,11 @@ use Rattle.machine.specs.Laws.Kept.{sound-stored}
 use Rattle.machine.specs.Laws.Stays.{IsMapped, grown-all-touched, span-mapped}
 use Rattle.memory.specs.Memory.{Memory, memory, sizesOf, lengths}
 use Rattle.promise.specs.Holds.{Holds}
-use Rattle.promise.specs.Did.{Words, Did}
+use Rattle.promise.specs.Did.{Among, Words, Did}
 use Rattle.laws.specs.Spans.{AllTouched}
 use Rattle.laws.specs.SpanChecks.{page-of-byte}
 use Rattle.laws.specs.Refusals.{Long, long, passed-step}
-use Rattle.laws.specs.Told.{told-did}
+use Rattle.laws.specs.Told.{from-four, told-did}
 use Rattle.laws.specs.Touches.{all-tables, all-touched-holds}
 use Rattle.laws.specs.Storing.{SpanMapped}
 
@@ -113,10 +113,11 @@ module _ (i x : ℕ) (vs : List ℕ) (k : Memory) (passes : asked (sizesOf (k .h
   asked-of : (m : State) → Holds m k → asked (m .sizes) (write i x vs (lengths k)) ≡ 0
   asked-of m h = ap (λ z. asked z (write i x vs (lengths k))) (sym (h .sizes-are)) ∙ passes
 
-  pub write-refused : (n : ℕ) → 4 ≤ n → ((m : State) → Holds m k → n ≡ refusalOf m i x (length vs)) → Did (write i x vs) k (refused n 0) k
+  pub write-refused : (n : ℕ) → Among (4 ∷ 8 ∷ 9 ∷ []) n → ((m : State) → Holds m k → n ≡ refusalOf m i x (length vs)) → Did (write i x vs) k (refused n 0) k
   unfolding accepted
-  write-refused n late is =
-      told-did (write i x vs) k (refused n 0) passes late tt
+  write-refused n given is =
+      let low = from-four _ _ _ n (omega arith) (omega arith) (omega arith) given in
+      told-did (write i x vs) k (refused n 0) passes given tt
       (λ m h. refused-if m i x vs (spanOutside m i x (length vs)) (spanShort m i x (length vs)) n (is m h) (omega arith))
 
   -- the memory after the touches, and the RAM after the stores

@@ -1,13 +1,14 @@
 -- From the looks at a span's pages and the free frames to the number that settles a write.
 use mathlib.Core.Path.{_≡_, refl, sym, ap, _∙_}
 use mathlib.Core.Bool.{Bool, true, false, cond, _||_}
-use mathlib.Core.List.{List, []}
+use mathlib.Core.Logic.{inl, inr}
+use mathlib.Core.List.{List, [], _∷_}
 use Prim.Native.Nat.{ℕ, suc, _+_, _-_, _≤_, _<_}
 use native.Mathlib.Omega.{arith}
 use borrow.Author.Tests.{lt-ltb, le-ltb}
 use lib.Dec.{ltb}
 use lib.ListN.{length}
-use Rattle.machine.specs.Machine.{Sizes, sizesOk, placeOf, State, Page, outside, unmapped, mapped, pageOf, wordsAt, look, free, asked, frames, lookPage, absence, isOutside, anyOutside, isUnmapped, countAbsent, accepted}
+use Rattle.machine.specs.Machine.{Sizes, sizesOk, placeOf, State, Lent, Page, outside, unmapped, mapped, pageOf, wordsAt, look, free, asked, frames, lookPage, absence, isOutside, anyOutside, isUnmapped, countAbsent, accepted}
 use Rattle.machine.specs.Answers.{lookedSays, freeSays}
 use Rattle.machine.specs.declared.Looked.{Looked}
 use Rattle.machine.specs.declared.Looked.the-variants as looked-is
@@ -16,7 +17,7 @@ use Rattle.machine.specs.declared.Free.the-variants as free-is
 use Rattle.memory.specs.Memory.{Memory, memory, sizesOf, lengths}
 use Rattle.memory.specs.declared.Head.{Head}
 use Rattle.promise.specs.Holds.{Holds}
-use Rattle.promise.specs.Did.{Later, Did}
+use Rattle.promise.specs.Did.{Among, Later, Did}
 use Rattle.laws.specs.Refusals.{passed-step}
 use Rattle.laws.specs.Passing.{look-passes}
 use Rattle.laws.specs.Found.{Found, looked-later, page-found}
@@ -44,10 +45,15 @@ absence-is m p found e = go found (pageOf m p) e
     go (looked-is.Refused n v) (unmapped a) e = absurd (let z : _≡_ {A = ℕ} 0 1 = cc in omega arith)
     go (looked-is.Refused n v) (mapped a g) e = absurd (let z : _≡_ {A = ℕ} 0 1 = cc in omega arith)
 
-refused-late : (r : Looked) → Later (lookedSays r) → (absenceOf r ≡ 0 → ⊥) → 4 ≤ absenceOf r
-refused-late (looked-is.Resident f) l d = absurd (d refl)
-refused-late (looked-is.Absent w) l d = omega arith
-refused-late (looked-is.Refused n w) l d = l
+refused-late : (i b : ℕ) (l : Lent) (r : Looked) → Later (look i b l) (lookedSays r) → (absenceOf r ≡ 0 → ⊥) → (absenceOf r ≡ 10 → ⊥) → Among (4 ∷ 9 ∷ []) (absenceOf r)
+refused-late i b l (looked-is.Resident f) g d t = absurd (d refl)
+refused-late i b l (looked-is.Absent w) g d t = absurd (t refl)
+refused-late i b l (looked-is.Refused n w) g d t = g
+
+-- a look's number is one of a write
+of-write : (n : ℕ) → Among (4 ∷ 9 ∷ []) n → Among (4 ∷ 8 ∷ 9 ∷ []) n
+of-write n (inl e) = inl e
+of-write n (inr more) = inr (inr more)
 
 page-there : (g : Page) → absence g ≡ 0 → (isOutside g ≡ false) × (isUnmapped g ≡ 0)
 page-there outside e = absurd (omega arith)
@@ -103,7 +109,7 @@ module _ (h : Head) (i first end : ℕ) (index count table helper stack cache : 
       }
 
   module _ {page no : ℕ} (look-of : LookedUp page no) where
-    late : Later (lookedSays (look-of .found))
+    late : Later (look i page (lengths (lent [] []))) (lookedSays (look-of .found))
     late =
         let y = look-of .ready in
         looked-later i page (lent [] []) _
@@ -164,7 +170,7 @@ module _ (h : Head) (i first end : ℕ) (index count table helper stack cache : 
     pub counted-outside : {absent : ℕ} → Counted absent page → (no ≡ 0 → ⊥) → (no ≡ 10 → ⊥) → Surveyed h i first end index count table helper stack cache (Refused no)
     counted-outside c d t =
         record {
-          late = rw (look-of .no-is) (refused-late (look-of .found) late (λ e. d (look-of .no-is ∙ e)));
+          late = rw (look-of .no-is) (refused-late i page _ (look-of .found) late (λ e. d (look-of .no-is ∙ e)) (λ e. t (look-of .no-is ∙ e)));
           honest = λ link ram m H.
               let e = told link ram m H in
               let s = page-outside (pageOf m (placeOf (m .sizes) i page)) (λ q. d (e ∙ q)) (λ q. t (e ∙ q)) in
@@ -175,7 +181,7 @@ module _ (h : Head) (i first end : ℕ) (index count table helper stack cache : 
 
 module _ (h : Head) (ok : sizesOk (sizesOf h) ≡ true) (seen : Tally) where
   pub settled-refused : (n : ℕ) → seen ≡ Refused n → Settled h seen n
-  settled-refused n e = rw e (record { late = λ l _. l; honest = λ index count table helper stack cache link ram m H. refl })
+  settled-refused n e = rw e (record { late = λ l _. of-write n l; honest = λ index count table helper stack cache link ram m H. refl })
 
   module _ (r : Free)
       (frees : (index count table helper stack cache link ram : List ℕ) →
@@ -195,7 +201,7 @@ module _ (h : Head) (ok : sizesOk (sizesOf h) ≡ true) (seen : Tally) where
     settled-short n absent e s l =
         rw s
         (record {
-          late = λ _ _. omega arith;
+          late = λ _ _. inr (inl refl);
           honest = λ index count table helper stack cache link ram m H.
               let p = pool-is index count table helper stack cache link ram m H in
               let same : length (m .pool) ≡ n = cc in
@@ -218,7 +224,7 @@ module _ (h : Head) (ok : sizesOk (sizesOf h) ≡ true) (seen : Tally) where
     settled-broken n absent e s =
         let a = rw passes-free at (frees [] [] [] [] [] [] [] [] .asks) in
         record {
-          late = λ _ _. rw e at a;
+          late = λ _ _. inr (inr (rw e at a));
           honest = λ index count table helper stack cache link ram m H.
               let p = pool-is index count table helper stack cache link ram m H in
               absurd (let z : _≡_ {A = ℕ} 0 1 = cc in omega arith);

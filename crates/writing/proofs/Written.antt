@@ -1,7 +1,7 @@
 -- From the check, the survey, the touches and the stores to a write's promise.
 use mathlib.Core.Path.{_≡_, refl, sym, ap, ap₂, _∙_, subst}
 use mathlib.Core.Bool.{Bool, true}
-use mathlib.Core.List.{List}
+use mathlib.Core.List.{List, [], _∷_}
 use Prim.Native.Nat.{ℕ, _+_, _-_, _*_, _/_, _≤_, _<_}
 use native.Mathlib.Nat.{add-sub-cancel-left}
 use native.Mathlib.Omega.{arith}
@@ -11,7 +11,7 @@ use Rattle.machine.specs.Machine.{Sizes, sizesOk, spaceBytes, placeOf, spanPage
 use Rattle.machine.specs.Laws.Sizes.{fit}
 use Rattle.memory.specs.Memory.{Memory, sizesOf, lengths}
 use Rattle.promise.specs.Holds.{Holds}
-use Rattle.promise.specs.Did.{Words, Did}
+use Rattle.promise.specs.Did.{Among, Words, Did}
 use Rattle.laws.specs.Models.{checkOf}
 use Rattle.laws.specs.Spans.{spanInside, writeLengths, AllTouched}
 use Rattle.laws.specs.SpanChecks.{write-check}
@@ -34,9 +34,9 @@ pub record Spanned (k : Memory) (i x : ℕ) (vs : List ℕ) (first pages : ℕ) 
   pub first-is : first ≡ x / sizesOf (k .head) .page
   pub pages-is : pages ≡ spanPages (sizesOf (k .head)) x (length vs)
 
--- the number that settles it: none of 1 to 3, and on honest memory the machine's
+-- the number that settles it: one of a write, and on honest memory the machine's
 pub record Decided (k : Memory) (i x : ℕ) (vs : List ℕ) (short : ℕ) : Type 0 where
-  pub late : (short ≡ 0 → ⊥) → 4 ≤ short
+  pub late : (short ≡ 0 → ⊥) → Among (4 ∷ 8 ∷ 9 ∷ []) short
   pub is : (m : State) → Holds m k → short ≡ refusalOf m i x (length vs)
 
 module _ {k : Memory} {i x : ℕ} {vs : List ℕ} {first pages : ℕ} (s : Spanned k i x vs first pages) where

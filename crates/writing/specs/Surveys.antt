@@ -1,7 +1,7 @@
 -- What the survey of a span's pages says, and the number that settles a write before its first touch.
 use mathlib.Core.Path.{_≡_}
 use mathlib.Core.Bool.{true, false, cond}
-use mathlib.Core.List.{List}
+use mathlib.Core.List.{List, [], _∷_}
 use Prim.Native.Nat.{ℕ, _-_, _≤_, _<_}
 use lib.Dec.{ltb}
 use lib.ListN.{length}
@@ -9,6 +9,7 @@ use Rattle.machine.specs.Machine.{State, placeOf, anyOutside, countAbsent}
 use Rattle.memory.specs.Memory.{memory}
 use Rattle.memory.specs.declared.Head.{Head}
 use Rattle.promise.specs.Holds.{Holds}
+use Rattle.promise.specs.Did.{Among}
 use Rattle.lookup.specs.Ready.{Ready}
 use Rattle.writing.specs.declared.Tally as tally
 use Rattle.writing.specs.declared.Tally.the-variants as tally-is
@@ -17,10 +18,10 @@ use Rattle.writing.specs.declared.Tally.the-variants as tally-is
 abbrev pub Lookable : Head → ℕ → ℕ → List ℕ → List ℕ → List ℕ → List ℕ → List ℕ → List ℕ → Type 0
 Lookable h i end index count table helper stack cache = (b : ℕ) → b < end → Ready h i b index count table helper stack cache
 
--- none of refusals 1 to 3
+-- the number of a look
 abbrev pub Late : tally.Tally → Type 0
 Late (tally-is.Absent c) = Unit {0}
-Late (tally-is.Refused n) = 4 ≤ n
+Late (tally-is.Refused n) = Among (4 ∷ 9 ∷ []) n
 
 -- of k pages from place p on
 abbrev pub TallyIs : State → ℕ → ℕ → tally.Tally → Type 0
@@ -41,6 +42,6 @@ settledBy n (tally-is.Refused k) = k
 
 pub record Settled (h : Head) (s : tally.Tally) (r : ℕ) : Type 0 where
   -- on any memory
-  pub late : Late s → (r ≡ 0 → ⊥) → 4 ≤ r
+  pub late : Late s → (r ≡ 0 → ⊥) → Among (4 ∷ 8 ∷ 9 ∷ []) r
   pub honest : (index count table helper stack cache link ram : List ℕ) (m : State) → Holds m (memory h index count table helper stack cache link ram)
       → r ≡ settledBy (length (m .pool)) s

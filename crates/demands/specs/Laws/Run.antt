@@ -3,7 +3,7 @@ use mathlib.Core.Path.{_≡_, refl, ap₂}
 use mathlib.Core.List.{List, [], _∷_, _++_, map}
 use Prim.Native.Nat.{ℕ, zero, suc}
 use native.Mathlib.Omega.{arith}
-use Rattle.machine.specs.Machine.{Sizes, State, start, done, begun, answers, after, afterAll}
+use Rattle.machine.specs.Machine.{Sizes, State, Call, start, done, begun, answers, after, afterAll}
 use Rattle.memory.specs.Memory.{Memory}
 use Rattle.promise.specs.Holds.{Holds}
 use Rattle.promise.specs.Did.{Exactly}
@@ -29,14 +29,14 @@ run-split {k} [] ys r = (k, none, r)
 run-split (x ∷ xs) ys (next s r) = let (k₁, before, later) = run-split xs ys r in (k₁, next s before, later)
 
 -- the accepted start, on memory that held anything
-accepted-asks : (j : ℕ) → Exactly j done → j ≡ 0
-accepted-asks zero e = refl
-accepted-asks (suc j) e = absurd (let z : _≡_ {A = ℕ} 0 1 = cc in omega arith)
+accepted-asks : (j : ℕ) (c : Call) → Exactly j c done → j ≡ 0
+accepted-asks zero c e = refl
+accepted-asks (suc j) c e = absurd (let z : _≡_ {A = ℕ} 0 1 = cc in omega arith)
 
 pub started-holds : (z : Sizes) (k k′ : Memory) (es : List Event) → (q : Sequence z k es k′) → Holds (begun z (k .ram)) (q .started)
 started-holds z k k′ es q =
     let t = told k _ _ (q .accepted) in
-    rw (q .accepted .after-is) (begun-holds k (q .lent) done _ z (q .lent) (accepted-asks _ (t .asks)) t .1)
+    rw (q .accepted .after-is) (begun-holds k (q .lent) done _ z (q .lent) (accepted-asks _ _ (t .asks)) t .1)
 
 pub sequence-follows : (z : Sizes) (k k′ : Memory) (es : List Event) → Sequence z k es k′ → Followed (begun z (k .ram)) es k′
 sequence-follows z k k′ es q = run-follows (begun z (k .ram)) (started-holds z k k′ es q) (q .run)

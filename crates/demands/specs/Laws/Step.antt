@@ -21,7 +21,7 @@ pub record Told (k : Memory) (n : Lent) (c : Call) (a : Answer) (part : Memory) 
   pub carries : Carries c n
   pub parts : Parts (uses c) n (lengths k)
   pub room : a ≡ done → Room c k
-  pub asks : Exactly (asked (sizesOf (k .head)) c) a
+  pub asks : Exactly (asked (sizesOf (k .head)) c) c a
   pub stays : still a ≡ true → part ≡ front n k
   pub honest : (m : State) → Holds m (front n k) → Room c (front n k) → Follows m c a part
   pub begins : Begins c (front n k) a part
@@ -60,7 +60,7 @@ module _ (k : Memory) (n : Lent) (a : Answer) (part : Memory) where
     -- refused with 1, 2 or 3: nothing changed
     early : (c : Call) (j : ℕ) → asked (m .sizes) c ≡ suc j → Told k n c a part → Beside c
     early c j e t =
-        let r : a ≡ refused (suc j) 0 = subst (λ (i : ℕ). Exactly i a) (ap (λ (z : Sizes). asked z c) (H .sizes-are) ∙ e) (t .asks) in
+        let r : a ≡ refused (suc j) 0 = subst (λ (i : ℕ). Exactly i c a) (ap (λ (z : Sizes). asked z c) (H .sizes-are) ∙ e) (t .asks) in
         let o = refused-step m c j e in
         let same : rejoined n part k ≡ k = ap (λ (p : Memory). rejoined n p k) (t .stays (ap still r)) ∙ rejoined-front n k in
         record { answer-is = r ∙ sym (ap (λ (x : Out). x .answer) o); holds = rw same (subst (λ (x : Out). Holds (x .after) k) (sym o) H) }
