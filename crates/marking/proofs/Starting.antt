@@ -1,11 +1,9 @@
--- Start: one count more is cleared; what begins, and what the whole of a start does, is the model's.
+-- Start: what begins, and what the whole of a start does, is the model's.
 use mathlib.Core.Path.{_≡_, refl, sym, ap, _∙_}
 use mathlib.Core.Bool.{true}
 use mathlib.Core.List.{List, _++_}
-use Prim.Native.Nat.{ℕ, suc, _+_, _%_, _<_}
-use native.Mathlib.Numerals.{add-one}
-use lib.ListN.{length, getD, drop, set, replicate, length-replicate, replicate-append-replicate}
-use lib.Seq.{drop-cons, append-snoc, set-at}
+use Prim.Native.Nat.{ℕ}
+use lib.ListN.{length, drop, replicate}
 use Rattle.index.specs.Answers as index
 use Rattle.index.specs.Promise.{Prepared}
 use Rattle.index.specs.declared.Change.{Change}
@@ -22,11 +20,6 @@ use Rattle.laws.specs.Models.{checkOf, startHead}
 use Rattle.laws.specs.Checking.{checked-no, checked-yes, ready}
 use Rattle.laws.specs.Marking.{start-did}
 use Rattle.marking.specs.Steps.{sizes, lentTo, changeAnswer, Beginnable, Begins}
-
-pub clear-more : (ws : List ℕ) (i : ℕ) → i < length ws → set (replicate i 0 ++ drop i ws) i 0 ≡ replicate (i + 1) 0 ++ drop (i + 1) ws
-clear-more ws i h =
-    rw (← replicate-append-replicate {A = ℕ} i 1 0, append-snoc, add-one, drop-cons ws i 0)
-    (set-at (replicate i 0) (getD ws i 0) (drop (suc i) ws) 0 i (length-replicate i 0))
 
 pub begins : (next : Head) (t : ℕ) (ws count : List ℕ) (d : Change) (a : Answer) (ws′ count′ : List ℕ) → t ≡ places (sizesOf next)
     → Prepared t ws (index.changeSays d) ws′ → count′ ≡ replicate t 0 ++ drop t count → a ≡ changeAnswer d → Begins next ws count next a ws′ count′

@@ -5,7 +5,7 @@ use Prim.Native.Nat.{ℕ, _≤_, _-_}
 use native.Mathlib.Omega.{arith}
 use borrow.Author.Needs.{needs}
 use lib.ListN.{length, drop, set, replicate}
-use Rattle.marking.proofs.Starting.{clear-more}
+use Rattle.sequence.specs.Lists.{clear-more}
 use Rattle.marking.proofs.clear_counts.Statement.{statement}
 use Rattle.marking.proofs.clear_counts.Tie as tie
 
