@@ -4,7 +4,7 @@ use mathlib.Core.Logic.{inl, inr}
 use mathlib.Core.Bool.{Bool, true, false, cond}
 use mathlib.Core.List.{List, [], _∷_, _++_}
 use Prim.Native.Nat.{ℕ, zero, suc, _+_, _-_, _*_, _/_, _≤_, _<_}
-use native.Mathlib.Nat.{add-zero, zero-add, suc-add, add-suc}
+use native.Mathlib.Nat.{add-zero, zero-add, suc-add, add-suc, div-mul-le-self}
 use native.Mathlib.Omega.{arith}
 use borrow.Author.Tests.{lt-ltb, le-leb, lt-leb}
 use lib.Dec.{leb}
@@ -114,7 +114,7 @@ module _ (i : ℕ) (k : Memory) (slice : List ℕ) where
   pub list-refused : (n : ℕ) → n ≡ checkOf (k .head) (markLengths k) i true → (n ≡ 0 → ⊥) → ListDid i k (Refused n) slice slice
   list-refused zero e d = absurd (d refl)
   list-refused (suc n) e d =
-      record { did = early-did (list i room) k n (sym (e ∙ list-check k i room)); kept = λ _ _. refl; after-last = refl }
+      record { did = early-did (list i room) k n (sym (e ∙ list-check k i room)); kept = λ _ _. refl; fits = omega arith; after-last = refl }
 
   module _ (n : ℕ) (checked : n ≡ checkOf (k .head) (markLengths k) i true) (passes : n ≡ 0) where
     listed : (a : Answer) → Later (list i room (lengths k)) a → ((m : State) → Holds m k → a ≡ listIf (recordsOf m i) (leb (length (recordsOf m i)) room)) → Did (list i room) k a k
@@ -133,6 +133,7 @@ module _ (i : ℕ) (k : Memory) (slice : List ℕ) where
           record {
             did = listed _ (inr (inl refl)) (λ m o. rw (← counted m o, lt-leb many room h));
             kept = λ _ _. refl;
+            fits = omega arith;
             after-last = refl;
           }
 
@@ -142,5 +143,6 @@ module _ (i : ℕ) (k : Memory) (slice : List ℕ) where
           record {
             did = listed _ tt (λ m o. rw (← counted m o, le-leb many room h, filled m o));
             kept = λ n e. absurd (let z : _≡_ {A = ℕ} 0 1 = cc in omega arith);
+            fits = omega (arith, div-mul-le-self (length slice) 3);
             after-last = rest;
           }

@@ -1,7 +1,7 @@
 -- The promises of read and list, which besides fill a buffer of their caller's; it is no part of the memory.
 use mathlib.Core.Path.{_≡_}
 use mathlib.Core.List.{List, [], _∷_}
-use Prim.Native.Nat.{ℕ, zero, suc, _*_, _/_}
+use Prim.Native.Nat.{ℕ, zero, suc, _*_, _/_, _≤_}
 use lib.ListN.{length, getD, drop}
 use Rattle.machine.specs.Machine.{read, list}
 use Rattle.machine.specs.Answers.{copiedSays, listedSays}
@@ -27,8 +27,9 @@ abbrev pub recordsFilled : Listed → ℕ
 recordsFilled (listed-is.Regions n) = n
 recordsFilled (listed-is.Refused k) = 0
 
--- a list into a slice with room for length / 3 records; a refusal leaves it, and so do the records after the last, on any memory
+-- a list into a slice with room for length / 3 records; a refusal leaves it, no more records are told of than it has, and those after the last stay, on any memory
 pub record ListDid (i : ℕ) (k : Memory) (r : Listed) (slice slice′ : List ℕ) : Type 0 where
   pub did : Did (list i (length slice / 3)) k (listedSays r (recordsIn (recordsFilled r) slice′)) k
   pub kept : (n : ℕ) → r ≡ listed-is.Refused n → slice′ ≡ slice
+  pub fits : 3 * recordsFilled r ≤ length slice
   pub after-last : drop (3 * recordsFilled r) slice′ ≡ drop (3 * recordsFilled r) slice

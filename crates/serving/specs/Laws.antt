@@ -1,0 +1,21 @@
+-- Records as numbers: a slice of numbers is its first records, then the rest.
+use mathlib.Core.Path.{_≡_, refl, sym, ap, _∙_}
+use mathlib.Core.List.{List, [], _∷_, _++_}
+use Prim.Native.Nat.{ℕ, zero, suc, _+_, _*_, _≤_}
+use native.Mathlib.Omega.{arith}
+use lib.ListN.{length, drop}
+use Rattle.promise.specs.Filled.{recordsIn}
+use Rattle.serving.specs.Requests.{numbersOf}
+
+pub records-length : (n : ℕ) (ws : List ℕ) → length (recordsIn n ws) ≡ n
+records-length zero ws = refl
+records-length (suc n) ws = ap suc (records-length n (drop 3 ws))
+
+pub records-numbers : (n : ℕ) (ws : List ℕ) → 3 * n ≤ length ws → numbersOf (recordsIn n ws) ++ drop (3 * n) ws ≡ ws
+records-numbers zero ws h = refl
+records-numbers (suc n) [] h = absurd (omega arith)
+records-numbers (suc n) (a ∷ []) h = absurd (omega arith)
+records-numbers (suc n) (a ∷ b ∷ []) h = absurd (omega arith)
+records-numbers (suc n) (a ∷ b ∷ c ∷ ws) h =
+    let e : 3 * suc n ≡ suc (suc (suc (3 * n))) = omega arith in
+    rw e (ap (λ (xs : List ℕ). a ∷ b ∷ c ∷ xs) (records-numbers n ws (omega arith)))
