@@ -29,7 +29,7 @@ run-split {k} [] ys r = (k, none, r)
 run-split (x ∷ xs) ys (next s r) = let (k₁, before, later) = run-split xs ys r in (k₁, next s before, later)
 
 -- the accepted start, on memory that held anything
-accepted-asks : (j : ℕ) (c : Call) → Exactly j c done → j ≡ 0
+pub accepted-asks : (j : ℕ) (c : Call) → Exactly j c done → j ≡ 0
 accepted-asks zero c e = refl
 accepted-asks (suc j) c e = absurd (let z : _≡_ {A = ℕ} 0 1 = cc in omega arith)
 

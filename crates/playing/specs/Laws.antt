@@ -1,0 +1,224 @@
+-- Playing codes: a list after another, and what follows of demands 2 and 3.
+use mathlib.Core.Path.{_≡_, refl, sym, ap, _∙_, subst}
+use mathlib.Core.Bool.{Bool, true, false}
+use mathlib.Core.List.{List, [], _∷_, _++_, append-nil}
+use Prim.Native.Nat.{ℕ, zero, suc, _+_, _≤_, _<_}
+use native.Mathlib.Nat.{add-zero, zero-add, suc-add, add-suc}
+use native.Mathlib.Omega.{arith}
+use lib.ListN.{length}
+use lib.Seq.{take-length, drop-length}
+use Rattle.machine.specs.Machine.{Sizes, State, Lent, start, uses, asked, accepted, Answer, done, answer, after, Out, begun, unstarted, step}
+use Rattle.memory.specs.Memory.{Memory, memory, sizesOf, lengths}
+use Rattle.promise.specs.Holds.{Roomy, Holds}
+use Rattle.promise.specs.Did.{Did, Exactly, Follows, Room}
+use Rattle.laws.specs.Refusals.{passed-step}
+use Rattle.demands.specs.History.{front, rejoined, Lends, Parts as LentParts, Carries, Event, Step, Run, none, next}
+use Rattle.demands.specs.Demands.{machineAt, Sequence, Demand3}
+use Rattle.demands.specs.Laws.Step.{step-follows}
+use Rattle.demands.specs.Laws.Run.{accepted-asks}
+use Rattle.demands.specs.Theorems.{demand-3}
+use Rattle.serving.specs.Requests.{requested}
+use Rattle.serving.specs.declared.Request.{Request}
+use Rattle.serving.specs.declared.Request.the-variants.{Start, Mark, Drop, Touch, Look, Release, Free, Translate, Read, Write, List as Listing}
+use Rattle.playing.specs.declared.Parts.{Parts}
+use Rattle.playing.specs.declared.Code.{Code}
+use Rattle.playing.specs.declared.Code.the-variants.{Call, Unreadable}
+use Rattle.playing.specs.Codes.{codeAt}
+use Rattle.playing.specs.Plays.{Desk, called, laid, Played, playOne, plays, Turns}
+use Rattle.playing.specs.Plays.Turns.{none as no-turn, skip, turn}
+use Rattle.playing.specs.Promise.{RoomFor, RoomIn, Rooms, byMachine, Begun, Plays}
+
+-- ---- codes after codes
+
+module _ (codes : List ℕ) (wholeBytes wholeRecords : ℕ) where
+  pub turns-append : {j n m : ℕ} {k k₁ k₂ : Memory} {d d₁ d₂ : Desk} {es fs : List Event} → Turns codes wholeBytes wholeRecords j n k d es k₁ d₁
+      → Turns codes wholeBytes wholeRecords (j + n) m k₁ d₁ fs k₂ d₂ → Turns codes wholeBytes wholeRecords j (n + m) k d (es ++ fs) k₂ d₂
+  turns-append no-turn u = rw zero-add (rw add-zero at u)
+  turns-append (skip e t) u = rw suc-add (skip e (turns-append t (rw (add-suc, ← suc-add) at u)))
+  turns-append (turn e did same t) u = rw suc-add (turn e did same (turns-append t (rw (add-suc, ← suc-add) at u)))
+
+-- ---- a call lent all of the memory is a step of a sequence
+
+front-whole : (k : Memory) → front (lengths k) k ≡ k
+front-whole k = λ j.
+    memory (k .head) (take-length (k .index) j) (take-length (k .count) j) (take-length (k .table) j) (take-length (k .helper) j)
+    (take-length (k .stack) j) (take-length (k .cache) j) (take-length (k .link) j) (take-length (k .ram) j)
+
+-- nothing is left beyond the whole
+whole : (xs ys : List ℕ) → xs ++ lib.ListN.drop (length ys) ys ≡ xs
+whole xs ys = rw drop-length (append-nil xs)
+
+rejoined-whole : (k k′ : Memory) → rejoined (lengths k) k′ k ≡ k′
+rejoined-whole k k′ = λ j.
+    memory (k′ .head) (whole (k′ .index) (k .index) j) (whole (k′ .count) (k .count) j) (whole (k′ .table) (k .table) j) (whole (k′ .helper) (k .helper) j)
+    (whole (k′ .stack) (k .stack) j) (whole (k′ .cache) (k .cache) j) (whole (k′ .link) (k .link) j) (whole (k′ .ram) (k .ram) j)
+
+lends-whole : (u : Bool) (n : ℕ) → Lends u n n
+lends-whole true n = omega arith
+lends-whole false n = refl
+
+carries-own : (q : Request) (bytes records : List ℕ) (l : Lent) → Carries (requested q bytes records l) l
+carries-own (Start s n f p) bytes records l = refl
+carries-own (Mark i b) bytes records l = refl
+carries-own (Drop i b) bytes records l = refl
+carries-own (Touch i b) bytes records l = refl
+carries-own (Look i b) bytes records l = refl
+carries-own (Release i b) bytes records l = refl
+carries-own Free bytes records l = tt
+carries-own (Translate i x) bytes records l = refl
+carries-own (Read i x) bytes records l = refl
+carries-own (Write i x) bytes records l = refl
+carries-own (Listing i) bytes records l = refl
+
+pub whole-step : (q : Request) (bytes records : List ℕ) (k : Memory) (a : Answer) (k₁ : Memory) → RoomFor q k → Did (requested q bytes records) k a k₁
+    → Step k (record { call = requested q bytes records; lent = lengths k; answer = a }) k₁
+whole-step q bytes records k a k₁ room d =
+    let l = lengths k in
+    let c = requested q bytes records l in
+    let u = uses c in
+    record {
+      parts = record {
+        index = lends-whole (u .index) _;
+        count = lends-whole (u .count) _;
+        table = lends-whole (u .table) _;
+        helper = lends-whole (u .helper) _;
+        stack = lends-whole (u .stack) _;
+        cache = lends-whole (u .cache) _;
+        link = lends-whole (u .link) _;
+        ram = lends-whole (u .ram) _;
+      };
+      carries = carries-own q bytes records l;
+      room = λ e. room bytes records (accepted-asks (asked (sizesOf (k .head)) c) c (subst (λ (x : Answer). Exactly (asked (sizesOf (k .head)) c) c x) e (d .asks)));
+      part = k₁;
+      did = subst (λ (x : Memory). Did (requested q bytes records) x a k₁) (sym (front-whole k)) d;
+      after-is = sym (rejoined-whole k k₁);
+    }
+
+-- ---- room stays, the lengths being the same
+
+roomy-moves : (z : Sizes) (k k₁ : Memory) → lengths k₁ ≡ lengths k → Roomy z k → Roomy z k₁
+roomy-moves z k k₁ e r =
+    record {
+      index = rw (ap (λ (x : Lent). x .index) e) (r .index);
+      count = rw (ap (λ (x : Lent). x .count) e) (r .count);
+      table = rw (ap (λ (x : Lent). x .table) e) (r .table);
+      helper = rw (ap (λ (x : Lent). x .helper) e) (r .helper);
+      stack = rw (ap (λ (x : Lent). x .stack) e) (r .stack);
+      cache = rw (ap (λ (x : Lent). x .cache) e) (r .cache);
+      link = rw (ap (λ (x : Lent). x .link) e) (r .link);
+      ram = rw (ap (λ (x : Lent). x .ram) e) (r .ram);
+    }
+
+module _ (k k₁ : Memory) (same : lengths k₁ ≡ lengths k) where
+  room-moves : (q : Request) → RoomFor q k → RoomFor q k₁
+  unfolding asked
+  room-moves (Start s n f p) room bytes records e = roomy-moves _ k k₁ same (room bytes records (subst (λ (l : Lent). asked (sizesOf (k .head)) (requested (Start s n f p) bytes records l) ≡ 0) same e))
+  room-moves (Mark i b) room bytes records e = tt
+  room-moves (Drop i b) room bytes records e = tt
+  room-moves (Touch i b) room bytes records e = tt
+  room-moves (Look i b) room bytes records e = tt
+  room-moves (Release i b) room bytes records e = tt
+  room-moves Free room bytes records e = tt
+  room-moves (Translate i x) room bytes records e = tt
+  room-moves (Read i x) room bytes records e = tt
+  room-moves (Write i x) room bytes records e = tt
+  room-moves (Listing i) room bytes records e = tt
+
+  room-in-moves : (c : Code) → RoomIn c k → RoomIn c k₁
+  room-in-moves Unreadable room = tt
+  room-in-moves (Call q p) room = room-moves q room
+
+module _ (codes : List ℕ) (wholeBytes wholeRecords : ℕ) where
+  rooms-rest : (j n : ℕ) (k k₁ : Memory) → lengths k₁ ≡ lengths k → Rooms codes wholeBytes wholeRecords j (suc n) k → Rooms codes wholeBytes wholeRecords (suc j) n k₁
+  rooms-rest j n k k₁ same rooms i h =
+      let e : j + suc i ≡ suc j + i = omega arith in
+      room-in-moves k k₁ same (codeAt codes wholeBytes wholeRecords (suc j + i)) (subst (λ (i : ℕ). RoomIn (codeAt codes wholeBytes wholeRecords i) k) e (rooms (suc i) (omega arith)))
+
+  rooms-first : (j n : ℕ) (k : Memory) (q : Request) (p : Parts) → codeAt codes wholeBytes wholeRecords j ≡ Call q p → Rooms codes wholeBytes wholeRecords j (suc n) k → RoomFor q k
+  rooms-first j n k q p e rooms = subst (λ (c : Code). RoomIn c k) e (rw add-zero at (rooms 0 (omega arith)))
+
+  -- ---- a sequence, and the plain machine beside it
+
+  pub turns-run : {j n : ℕ} {k k′ : Memory} {d d′ : Desk} {es : List Event} → Turns codes wholeBytes wholeRecords j n k d es k′ d′
+      → Rooms codes wholeBytes wholeRecords j n k → Run k es k′
+  turns-run no-turn rooms = none
+  turns-run {j} (skip {n = n} {k = k} e t) rooms = turns-run t (rooms-rest j n k k refl rooms)
+  turns-run {j} (turn {n = n} {k = k} {k₁ = k₁} {q = q} {p = p} {a = a} e did same t) rooms =
+      next (whole-step q _ _ k a k₁ (rooms-first j n k q p e rooms) did) (turns-run t (rooms-rest j n k k₁ same rooms))
+
+  pub record Beside (x : Played) (k′ : Memory) (d′ : Desk) : Type 0 where
+    pub desk-is : d′ ≡ x .desk
+    pub holds : Holds (x .state) k′
+
+  pub turns-beside : {j n : ℕ} {k k′ : Memory} {d d′ : Desk} {es : List Event} (m : State) → Turns codes wholeBytes wholeRecords j n k d es k′ d′ → Holds m k
+      → Rooms codes wholeBytes wholeRecords j n k → Beside (plays codes wholeBytes wholeRecords (lengths k) j n (record { state = m; desk = d })) k′ d′
+  unfolding plays
+  turns-beside m no-turn H rooms = record { desk-is = refl; holds = H }
+  turns-beside {j} m (skip {n = n} {k = k} e t) H rooms = rw e (turns-beside m t H (rooms-rest j n k k refl rooms))
+  turns-beside {j} m (turn {n = n} {k = k} {k₁ = k₁} {d = d} {q = q} {p = p} {a = a} e did same t) H rooms =
+      let f = step-follows m k _ k₁ H (whole-step q _ _ k a k₁ (rooms-first j n k q p e rooms) did) in
+      let rest = turns-beside (after m (called q p d (lengths k))) t (f .holds) (rooms-rest j n k k₁ same rooms) in
+      rw (e, ← f .answer-is) (rw same at rest)
+
+-- ---- demands 2 and 3
+
+-- a machine begins with an accepted start, whatever it was before
+start-step : (m : State) (z : Sizes) (l : Lent) → asked z (start z l) ≡ 0 → step m (start z l) ≡ record { answer = done; after = begun z (m .ram) }
+unfolding asked accepted
+start-step m z l e = passed-step m (start z l) e
+
+-- so its player's first move is this
+first-play : (z : Sizes) (k : Memory) (d : Desk) (q : Request) (p : Parts) (a : Answer) → q ≡ Start (z .spaces) (z .pages) (z .frames) (z .page) → a ≡ done
+    → asked z (start z (lengths k)) ≡ 0
+    → playOne 0 (lengths k) (Call q p) (record { state = unstarted (k .ram); desk = d }) ≡ record { state = begun z (k .ram); desk = laid 0 p a d }
+first-play z k d q p a eq ea e =
+    rw (eq, ea) (ap {B = Played} (λ (o : Out). record { state = o .after; desk = laid 0 p (o .answer) d }) (start-step (unstarted (k .ram)) z (lengths k) e))
+
+record FromStart (codes : List ℕ) (n : ℕ) (z : Sizes) (k : Memory) (d : Desk) (es : List Event) (k′ : Memory) (d′ : Desk) : Type 0 where
+  desk-is : d′ ≡ byMachine codes n k d (unstarted (k .ram)) .desk
+  first : Event
+  later : List Event
+  events-are : es ≡ first ∷ later
+  demand : Demand3 z k later k′ (machineAt z k later)
+
+from-start : {n : ℕ} {k k′ : Memory} {d d′ : Desk} {es : List Event} (codes : List ℕ) (z : Sizes) → Begun codes n k d z
+    → Turns codes (length (d .bytes)) (length (d .records)) 0 n k d es k′ d′ → FromStart codes n z k d es k′ d′
+unfolding plays asked
+from-start codes z b no-turn = absurd (omega (arith, b .some))
+from-start codes z b (skip e t) = absurd (let x : _≡_ {A = ℕ} 0 1 = cc (b .first) in omega arith)
+from-start codes z b (turn {n = n} {k = k} {k₁ = k₁} {d = d} {q = q} {p = p} {a = a} e did same t) =
+    let bytes = length (d .bytes) in
+    let records = length (d .records) in
+    let same-request : q ≡ Start (z .spaces) (z .pages) (z .frames) (z .page) = cc (b .first) in
+    let started : Did (start z) k a k₁ = rw same-request at did in
+    let begins = started .begins (b .accepted) in
+    let room = rooms-first codes bytes records 0 n k q p e (b .rooms) in
+    let room-of : Roomy z k = (rw same-request at room) [] [] (b .accepted) in
+    let rooms = rooms-rest codes bytes records 0 n k k₁ same (b .rooms) in
+    let move = ap (λ (c : Code). playOne 0 (lengths k) c (record { state = unstarted (k .ram); desk = d })) e
+    ∙ first-play z k d q p a same-request (begins .0) (b .accepted) in
+    let beside = turns-beside codes bytes records (begun z (k .ram)) t (begins .1 .holds room-of) rooms in
+    record {
+      desk-is = (rw same at (beside .desk-is)) ∙ ap (λ (x : Played). plays codes bytes records (lengths k) 1 n x .desk) (sym move);
+      first = _;
+      later = _;
+      events-are = refl;
+      demand = demand-3 z k _ _
+          (record {
+            lent = lengths k;
+            started = k₁;
+            accepted = whole-step (Start (z .spaces) (z .pages) (z .frames) (z .page)) [] [] k done k₁ (λ _ _ _. room-of) (rw (begins .0) at started);
+            run = turns-run codes bytes records t rooms;
+          });
+    }
+
+pub played : {n : ℕ} {k k′ : Memory} {d d′ : Desk} (codes : List ℕ) (es : List Event) → Turns codes (length (d .bytes)) (length (d .records)) 0 n k d es k′ d′
+    → Plays codes n k d k′ d′
+played codes es t =
+    record {
+      events = es;
+      turns = t;
+      demand-2 = λ z b. from-start codes z b t .desk-is;
+      honest = λ m H rooms. let b = turns-beside codes _ _ m t H rooms in (b .desk-is, b .holds);
+      demand-3 = λ z b. let f = from-start codes z b t in (f .first, f .later, f .events-are, f .demand);
+    }

@@ -1,0 +1,4 @@
+pub mod Codes
+pub mod Plays
+pub mod Promise
+pub mod Laws

@@ -1,0 +1,65 @@
+-- What playing a list of codes promises: demands 2 and 3 of the calls that were made.
+use mathlib.Core.Path.{_≡_}
+use mathlib.Core.List.{List, [], _∷_}
+use Prim.Native.Nat.{ℕ, _+_, _<_}
+use lib.ListN.{length}
+use Rattle.machine.specs.Machine.{Sizes, State, start, asked, done, unstarted, begun}
+use Rattle.memory.specs.Memory.{Memory, sizesOf, lengths}
+use Rattle.promise.specs.Holds.{Holds}
+use Rattle.promise.specs.Did.{Room}
+use Rattle.demands.specs.History.{Event}
+use Rattle.demands.specs.Demands.{machineAt, Demand3}
+use Rattle.serving.specs.Requests.{requested}
+use Rattle.serving.specs.declared.Request.{Request}
+use Rattle.serving.specs.declared.Request.the-variants as request-is
+use Rattle.playing.specs.declared.Parts.{Parts}
+use Rattle.playing.specs.declared.Code.{Code}
+use Rattle.playing.specs.declared.Code.the-variants.{Call, Unreadable}
+use Rattle.playing.specs.Codes.{codeAt}
+use Rattle.playing.specs.Plays.{Desk, Played, plays, Turns}
+
+-- ---- "The memory is long enough for the accepted start's sizes"
+
+-- a request that passes the checks for 1 to 3 finds room; said of start, the others ask for none
+abbrev pub RoomFor : Request → Memory → Type 0
+RoomFor q k = (bytes records : List ℕ) → asked (sizesOf (k .head)) (requested q bytes records (lengths k)) ≡ 0 → Room (requested q bytes records (lengths k)) k
+
+abbrev pub RoomIn : Code → Memory → Type 0
+RoomIn Unreadable k = Unit {0}
+RoomIn (Call q p) k = RoomFor q k
+
+-- of n codes from number j on
+abbrev pub Rooms : List ℕ → ℕ → ℕ → ℕ → ℕ → Memory → Type 0
+Rooms codes wholeBytes wholeRecords j n k = (i : ℕ) → i < n → RoomIn (codeAt codes wholeBytes wholeRecords (j + i)) k
+
+-- ---- the promise
+
+module _ (codes : List ℕ) (n : ℕ) (k : Memory) (d : Desk) where
+  abbrev wholeBytes : ℕ
+  wholeBytes = length (d .bytes)
+
+  abbrev wholeRecords : ℕ
+  wholeRecords = length (d .records)
+
+  -- what the plain machine would leave
+  abbrev pub byMachine : State → Played
+  byMachine m = plays codes wholeBytes wholeRecords (lengths k) 0 n (record { state = m; desk = d })
+
+  -- the first code is a start of these sizes, and it passes its checks
+  pub record Begun (z : Sizes) : Type 0 where
+    pub some : 0 < n
+    pub parts : Parts
+    pub first : codeAt codes wholeBytes wholeRecords 0 ≡ Call (request-is.Start (z .spaces) (z .pages) (z .frames) (z .page)) parts
+    pub accepted : asked z (start z (lengths k)) ≡ 0
+    pub rooms : Rooms codes wholeBytes wholeRecords 0 n k
+
+  pub record Plays (k′ : Memory) (d′ : Desk) : Type 0 where
+    -- the calls that were made, in order, with what they answered
+    pub events : List Event
+    pub turns : Turns codes wholeBytes wholeRecords 0 n k d events k′ d′
+    -- "From an accepted start, .. every answer is the plain machine's, whatever the five unprepared tables held"
+    pub demand-2 : (z : Sizes) → Begun z → d′ ≡ byMachine (unstarted (k .ram)) .desk
+    -- and where the memory stands for a machine already
+    pub honest : (m : State) → Holds m k → Rooms codes wholeBytes wholeRecords 0 n k → (d′ ≡ byMachine m .desk) × Holds (byMachine m .state) k′
+    -- "One claim over every sequence of calls": of the calls after the start
+    pub demand-3 : (z : Sizes) → Begun z → (e : Event) × (es : List Event) × (events ≡ e ∷ es) × Demand3 z k es k′ (machineAt z k es)
