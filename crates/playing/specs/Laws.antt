@@ -1,23 +1,21 @@
 -- Playing codes: a list after another, and what follows of demands 2 and 3.
 use mathlib.Core.Path.{_≡_, refl, sym, ap, _∙_, subst}
-use mathlib.Core.Bool.{Bool, true, false}
-use mathlib.Core.List.{List, [], _∷_, _++_, append-nil}
-use Prim.Native.Nat.{ℕ, zero, suc, _+_, _≤_, _<_}
+use mathlib.Core.List.{List, [], _∷_, _++_}
+use Prim.Native.Nat.{ℕ, zero, suc, _+_, _<_}
 use native.Mathlib.Nat.{add-zero, zero-add, suc-add, add-suc}
 use native.Mathlib.Omega.{arith}
 use lib.ListN.{length}
-use lib.Seq.{take-length, drop-length}
-use Rattle.machine.specs.Machine.{Sizes, State, Lent, start, uses, asked, accepted, Answer, done, answer, after, Out, begun, unstarted, step}
-use Rattle.memory.specs.Memory.{Memory, memory, sizesOf, lengths}
+use Rattle.machine.specs.Machine.{Sizes, State, Lent, start, asked, accepted, Answer, done, after, Out, begun, unstarted, step}
+use Rattle.memory.specs.Memory.{Memory, sizesOf, lengths}
 use Rattle.promise.specs.Holds.{Roomy, Holds}
-use Rattle.promise.specs.Did.{Did, Exactly, Follows, Room}
+use Rattle.promise.specs.Did.{Did}
 use Rattle.laws.specs.Refusals.{passed-step}
-use Rattle.demands.specs.History.{front, rejoined, Lends, Parts as LentParts, Carries, Event, Step, Run, none, next}
-use Rattle.demands.specs.Demands.{machineAt, Sequence, Demand3}
+use Rattle.demands.specs.History.{Event, Run, none, next}
+use Rattle.demands.specs.Demands.{machineAt, Demand3}
 use Rattle.demands.specs.Laws.Step.{step-follows}
-use Rattle.demands.specs.Laws.Run.{accepted-asks}
 use Rattle.demands.specs.Theorems.{demand-3}
 use Rattle.serving.specs.Requests.{requested}
+use Rattle.serving.specs.Steps.{RoomFor, whole-step}
 use Rattle.serving.specs.declared.Request.{Request}
 use Rattle.serving.specs.declared.Request.the-variants.{Start, Mark, Drop, Touch, Look, Release, Free, Translate, Read, Write, List as Listing}
 use Rattle.playing.specs.declared.Parts.{Parts}
@@ -26,7 +24,7 @@ use Rattle.playing.specs.declared.Code.the-variants.{Call, Unreadable}
 use Rattle.playing.specs.Codes.{codeAt}
 use Rattle.playing.specs.Plays.{Desk, called, laid, Played, playOne, plays, Turns}
 use Rattle.playing.specs.Plays.Turns.{none as no-turn, skip, turn}
-use Rattle.playing.specs.Promise.{RoomFor, RoomIn, Rooms, byMachine, Begun, Plays}
+use Rattle.playing.specs.Promise.{RoomIn, Rooms, byMachine, Begun, Plays}
 
 -- ---- codes after codes
 
@@ -36,63 +34,6 @@ module _ (codes : List ℕ) (wholeBytes wholeRecords : ℕ) where
   turns-append no-turn u = rw zero-add (rw add-zero at u)
   turns-append (skip e t) u = rw suc-add (skip e (turns-append t (rw (add-suc, ← suc-add) at u)))
   turns-append (turn e did same t) u = rw suc-add (turn e did same (turns-append t (rw (add-suc, ← suc-add) at u)))
-
--- ---- a call lent all of the memory is a step of a sequence
-
-front-whole : (k : Memory) → front (lengths k) k ≡ k
-front-whole k = λ j.
-    memory (k .head) (take-length (k .index) j) (take-length (k .count) j) (take-length (k .table) j) (take-length (k .helper) j)
-    (take-length (k .stack) j) (take-length (k .cache) j) (take-length (k .link) j) (take-length (k .ram) j)
-
--- nothing is left beyond the whole
-whole : (xs ys : List ℕ) → xs ++ lib.ListN.drop (length ys) ys ≡ xs
-whole xs ys = rw drop-length (append-nil xs)
-
-rejoined-whole : (k k′ : Memory) → rejoined (lengths k) k′ k ≡ k′
-rejoined-whole k k′ = λ j.
-    memory (k′ .head) (whole (k′ .index) (k .index) j) (whole (k′ .count) (k .count) j) (whole (k′ .table) (k .table) j) (whole (k′ .helper) (k .helper) j)
-    (whole (k′ .stack) (k .stack) j) (whole (k′ .cache) (k .cache) j) (whole (k′ .link) (k .link) j) (whole (k′ .ram) (k .ram) j)
-
-lends-whole : (u : Bool) (n : ℕ) → Lends u n n
-lends-whole true n = omega arith
-lends-whole false n = refl
-
-carries-own : (q : Request) (bytes records : List ℕ) (l : Lent) → Carries (requested q bytes records l) l
-carries-own (Start s n f p) bytes records l = refl
-carries-own (Mark i b) bytes records l = refl
-carries-own (Drop i b) bytes records l = refl
-carries-own (Touch i b) bytes records l = refl
-carries-own (Look i b) bytes records l = refl
-carries-own (Release i b) bytes records l = refl
-carries-own Free bytes records l = tt
-carries-own (Translate i x) bytes records l = refl
-carries-own (Read i x) bytes records l = refl
-carries-own (Write i x) bytes records l = refl
-carries-own (Listing i) bytes records l = refl
-
-pub whole-step : (q : Request) (bytes records : List ℕ) (k : Memory) (a : Answer) (k₁ : Memory) → RoomFor q k → Did (requested q bytes records) k a k₁
-    → Step k (record { call = requested q bytes records; lent = lengths k; answer = a }) k₁
-whole-step q bytes records k a k₁ room d =
-    let l = lengths k in
-    let c = requested q bytes records l in
-    let u = uses c in
-    record {
-      parts = record {
-        index = lends-whole (u .index) _;
-        count = lends-whole (u .count) _;
-        table = lends-whole (u .table) _;
-        helper = lends-whole (u .helper) _;
-        stack = lends-whole (u .stack) _;
-        cache = lends-whole (u .cache) _;
-        link = lends-whole (u .link) _;
-        ram = lends-whole (u .ram) _;
-      };
-      carries = carries-own q bytes records l;
-      room = λ e. room bytes records (accepted-asks (asked (sizesOf (k .head)) c) c (subst (λ (x : Answer). Exactly (asked (sizesOf (k .head)) c) c x) e (d .asks)));
-      part = k₁;
-      did = subst (λ (x : Memory). Did (requested q bytes records) x a k₁) (sym (front-whole k)) d;
-      after-is = sym (rejoined-whole k k₁);
-    }
 
 -- ---- room stays, the lengths being the same
 

@@ -1,16 +1,14 @@
 -- What playing a list of codes promises: demands 2 and 3 of the calls that were made.
 use mathlib.Core.Path.{_≡_}
-use mathlib.Core.List.{List, [], _∷_}
+use mathlib.Core.List.{List, _∷_}
 use Prim.Native.Nat.{ℕ, _+_, _<_}
 use lib.ListN.{length}
-use Rattle.machine.specs.Machine.{Sizes, State, start, asked, done, unstarted, begun}
-use Rattle.memory.specs.Memory.{Memory, sizesOf, lengths}
+use Rattle.machine.specs.Machine.{Sizes, State, start, asked, unstarted}
+use Rattle.memory.specs.Memory.{Memory, lengths}
 use Rattle.promise.specs.Holds.{Holds}
-use Rattle.promise.specs.Did.{Room}
 use Rattle.demands.specs.History.{Event}
 use Rattle.demands.specs.Demands.{machineAt, Demand3}
-use Rattle.serving.specs.Requests.{requested}
-use Rattle.serving.specs.declared.Request.{Request}
+use Rattle.serving.specs.Steps.{RoomFor}
 use Rattle.serving.specs.declared.Request.the-variants as request-is
 use Rattle.playing.specs.declared.Parts.{Parts}
 use Rattle.playing.specs.declared.Code.{Code}
@@ -19,10 +17,6 @@ use Rattle.playing.specs.Codes.{codeAt}
 use Rattle.playing.specs.Plays.{Desk, Played, plays, Turns}
 
 -- ---- "The memory is long enough for the accepted start's sizes"
-
--- a request that passes the checks for 1 to 3 finds room; said of start, the others ask for none
-abbrev pub RoomFor : Request → Memory → Type 0
-RoomFor q k = (bytes records : List ℕ) → asked (sizesOf (k .head)) (requested q bytes records (lengths k)) ≡ 0 → Room (requested q bytes records (lengths k)) k
 
 abbrev pub RoomIn : Code → Memory → Type 0
 RoomIn Unreadable k = Unit {0}

@@ -1,0 +1,34 @@
+-- A number, then the end.
+use borrow.Author.Needs.{needs}
+use Rattle.parsing.proofs.Reading.{end-here, more-here, took, took-none}
+use Rattle.parsing.proofs.calls.list_line.Statement.{statement}
+use Rattle.parsing.proofs.calls.list_line.Tie as tie
+
+number-after-blank-requires : tie.Need-number-after-blank-requires
+number-after-blank-requires c κs = search needs
+
+enum-known-i : tie.Need-enum-known-i
+enum-known-i c = search needs
+
+enum-told : tie.Need-enum-told
+enum-told c = search needs
+
+returns : tie.Need-returns
+returns c = rw (took-none _ _ (c .before .before .number-after-blank .ensures) (c .enum-told .given .1))
+
+returns-2 : tie.Need-returns-2
+returns-2 c =
+    let at-i = c .before in
+    let i = took _ _ (at-i .before .before .before .number-after-blank .ensures) (at-i .before .i .given .1) in
+    rw (i .1, more-here _ _ (i .0) (c .if1 .taken))
+
+returns-3 : tie.Need-returns-3
+returns-3 c =
+    let at-i = c .before in
+    let i = took _ _ (at-i .before .before .before .number-after-blank .ensures) (at-i .before .i .given .1) in
+    rw (i .1, end-here _ _ (c .if1 .left))
+
+pub list-line-spec : {M : Type 1} → statement M
+list-line-spec =
+    tie.close
+    (tie.spec number-after-blank-requires enum-known-i enum-told returns returns-2 returns-3)

@@ -1,0 +1,19 @@
+-- A digit is 48 to 57.
+use native.Mathlib.Omega.{arith}
+use mathlib.Core.Path.{refl}
+use borrow.Author.Needs.{needs}
+use Rattle.parsing.proofs.Reading.{digit-range}
+use Rattle.parsing.proofs.fields.digit_of.Statement.{statement}
+use Rattle.parsing.proofs.fields.digit_of.Tie as tie
+
+sub-result : tie.Need-sub-result
+sub-result c = omega (arith, digit-range (c .args .c) (c .pre))
+
+cast-result : tie.Need-cast-result
+cast-result c = search needs
+
+returns : tie.Need-returns
+returns c = (refl, omega (arith, digit-range (c .args .c) (c .pre)))
+
+pub digit-of-spec : {M : Type 1} → statement M
+digit-of-spec = tie.close (tie.spec sub-result cast-result returns)

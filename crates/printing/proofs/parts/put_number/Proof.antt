@@ -1,0 +1,40 @@
+-- The digits of io, put as a word.
+use native.Mathlib.Omega.{arith}
+use borrow.Author.Needs.{needs}
+use Rattle.printing.proofs.Written.{decimal-is, few-digits}
+use Rattle.printing.proofs.parts.put_number.Statement.{statement}
+use Rattle.printing.proofs.parts.put_number.Tie as tie
+
+decimal-requires : tie.Need-decimal-requires
+decimal-requires c κs = search needs
+
+array-share-prefix-digits : tie.Need-array-share-prefix-digits
+array-share-prefix-digits c = search needs
+
+slice-aggregate-put : tie.Need-slice-aggregate-put
+slice-aggregate-put c = search needs
+
+put-requires : tie.Need-put-requires
+put-requires c κs =
+    let d = c .before .before .decimal .ensures in
+    omega (arith, few-digits _ _ (c .before .before .before .before .before .fits .n .fits) (d .1 .0), d .0 .1)
+
+same-length : tie.Need-same-length
+same-length c = search needs
+
+returns : tie.Need-returns
+returns c =
+    let d = c .before .before .before .before .before .decimal .ensures in
+    let w = c .before .before .put .ensures in
+    (rw (d .1 .1, decimal-is _ _ (d .1 .0)) at w, omega (arith, few-digits _ _ (c .before .before .before .before .before .before .before .before .fits .n .fits) (d .1 .0), d .0 .1, w .end-is))
+
+pub put-number-spec : {M : Type 1} → statement M
+put-number-spec =
+    tie.close
+    (tie.spec
+    decimal-requires
+    array-share-prefix-digits
+    slice-aggregate-put
+    put-requires
+    same-length
+    returns)
