@@ -1,0 +1,119 @@
+-- Each turn takes a line; the buffers keep their lengths.
+use mathlib.Core.Path.{_∙_}
+use Prim.Native.Nat.{_-_}
+use native.Mathlib.Omega.{arith}
+use borrow.Author.Needs.{needs}
+use Rattle.play.proofs.Buffers.{Kept}
+use Rattle.play.proofs.board.answer_lines.Statement.{statement}
+use Rattle.play.proofs.board.answer_lines.Tie as tie
+
+abbrev Inv-loop : tie.InvT-loop
+Inv-loop input n is-long out₀ buffer₀ records₀ index₀ count₀ table₀ helper₀ stack₀ cache₀ link₀ ram₀ next₀ is-long₀ from₀ at₀ out buffer records index count table helper stack cache link ram next is-long' from at =
+    Kept out₀ buffer₀ records₀ index₀ count₀ table₀ helper₀ stack₀ cache₀ link₀ ram₀ out buffer records index count table helper stack cache link ram
+
+abbrev μ-loop : tie.MeasureT-loop
+μ-loop input n is-long out₀ buffer₀ records₀ index₀ count₀ table₀ helper₀ stack₀ cache₀ link₀ ram₀ next₀ is-long₀ from₀ at₀ out buffer records index count table helper stack cache link ram next is-long' from at =
+    n - from
+
+loop-holds : tie.Need-loop-holds Inv-loop μ-loop
+loop-holds c = search needs
+
+line-end-requires : tie.Need-line-end-requires Inv-loop μ-loop
+line-end-requires c κs = search needs
+
+answer-one-requires : tie.Need-answer-one-requires Inv-loop μ-loop
+answer-one-requires c κs = search needs
+
+written-requires : tie.Need-written-requires Inv-loop μ-loop
+written-requires c κs = search needs
+
+add-from : tie.Need-add-from Inv-loop μ-loop
+add-from c = omega (arith, c .before .before .before .before .before .before .before .before .before .before .before .before .before .before .before .before .before .before .before .before .before .before .before .before .before .before .before .before .before .before .before .before .before .before .before .before .before .if1 .left, c .before .before .before .before .before .before .before .before .before .before .before .before .before .before .before .before .before .before .before .before .before .before .before .before .before .before .before .before .before .before .before .before .before .before .before .before .before .before .before .before .before .before .before .before .before .before .before .before .before .before .before .before .before .fits)
+
+loop-less : tie.Need-loop-less Inv-loop μ-loop
+loop-less c =
+    let t = c .before .before .before .before .before .before .before .before .before .before .before .before .before .before .before .before .before .before .before .before .before .before .before .before .before .before .before .before .before .before .before .before .before .before .before .before .before .before .before in
+    omega (arith, c .before .before .before .before .before .before .before .before .before .before .before .before .before .before .before .before .before .before .before .before .before .before .before .before .before .before .before .before .before .before .before .before .before .before .before .before .before .if1 .left, t .loop-test .taken, c .before .before .before .before .before .before .before .before .before .before .before .before .before .before .before .before .before .before .before .before .before .before .before .before .before .before .before .before .before .before .before .before .before .before .before .before .before .before .line-end .ensures (omega (arith, t .loop-test .taken)))
+
+loop-again : tie.Need-loop-again Inv-loop μ-loop
+loop-again c =
+    let l = c .before .before .before .before .before .before .before .before .before .before .before .before .before .before .before .before .before .before .before .before .before .before .before .before .before .before .before .before .before .before .before .before .before .before .before .before .before .before .before .before .loop .inv in
+    record {
+      out-long = c .before .before .before .before .before .before .before .before .before .before .before .before .before .before .before .before .before .before .before .before .before .before .before .before .out .given ∙ l .out-long;
+      buffer-long = c .before .before .before .before .before .before .before .before .before .before .before .before .before .before .before .before .before .before .before .before .before .before .buffer .given ∙ l .buffer-long;
+      records-long = c .before .before .before .before .before .before .before .before .before .before .before .before .before .before .before .before .before .before .before .before .records .given ∙ l .records-long;
+      index-long = c .before .before .before .before .before .before .before .before .before .before .before .before .before .before .before .before .before .before .index .given ∙ l .index-long;
+      count-long = c .before .before .before .before .before .before .before .before .before .before .before .before .before .before .before .before .count .given ∙ l .count-long;
+      table-long = c .before .before .before .before .before .before .before .before .before .before .before .before .before .before .table .given ∙ l .table-long;
+      helper-long = c .before .before .before .before .before .before .before .before .before .before .before .before .helper .given ∙ l .helper-long;
+      stack-long = c .before .before .before .before .before .before .before .before .before .before .stack .given ∙ l .stack-long;
+      cache-long = c .before .before .before .before .before .before .before .before .cache .given ∙ l .cache-long;
+      link-long = c .before .before .before .before .before .before .link .given ∙ l .link-long;
+      ram-long = c .before .before .before .before .ram .given ∙ l .ram-long;
+    }
+
+write-requires : tie.Need-write-requires Inv-loop μ-loop
+write-requires c κs = search needs
+
+same-length : tie.Need-same-length Inv-loop μ-loop
+same-length c = search needs
+
+same-length-2 : tie.Need-same-length-2 Inv-loop μ-loop
+same-length-2 c = search needs
+
+same-length-3 : tie.Need-same-length-3 Inv-loop μ-loop
+same-length-3 c = search needs
+
+same-length-4 : tie.Need-same-length-4 Inv-loop μ-loop
+same-length-4 c = search needs
+
+same-length-5 : tie.Need-same-length-5 Inv-loop μ-loop
+same-length-5 c = search needs
+
+same-length-6 : tie.Need-same-length-6 Inv-loop μ-loop
+same-length-6 c = search needs
+
+same-length-7 : tie.Need-same-length-7 Inv-loop μ-loop
+same-length-7 c = search needs
+
+same-length-8 : tie.Need-same-length-8 Inv-loop μ-loop
+same-length-8 c = search needs
+
+same-length-9 : tie.Need-same-length-9 Inv-loop μ-loop
+same-length-9 c = search needs
+
+same-length-10 : tie.Need-same-length-10 Inv-loop μ-loop
+same-length-10 c = search needs
+
+same-length-11 : tie.Need-same-length-11 Inv-loop μ-loop
+same-length-11 c = search needs
+
+returns : tie.Need-returns Inv-loop μ-loop
+returns c = search needs
+
+pub answer-lines-spec : {M : Type 1} → statement M
+answer-lines-spec =
+    tie.close
+    (tie.spec
+    Inv-loop
+    μ-loop
+    loop-holds
+    line-end-requires
+    answer-one-requires
+    written-requires
+    add-from
+    loop-less
+    loop-again
+    write-requires
+    same-length
+    same-length-2
+    same-length-3
+    same-length-4
+    same-length-5
+    same-length-6
+    same-length-7
+    same-length-8
+    same-length-9
+    same-length-10
+    same-length-11
+    returns)

@@ -1,0 +1,62 @@
+-- A session of lines: what the plain machine answers to each. Document 01, "One session whole".
+use mathlib.Core.Bool.{Bool, true, false, cond, not, _&&_}
+use mathlib.Core.List.{List, []}
+use Prim.Native.Nat.{ℕ, _*_}
+use lib.Dec.{leb}
+use Rattle.machine.specs.Machine as machine
+use Rattle.serving.specs.Requests.{requested}
+use Rattle.serving.specs.declared.Request.{Request}
+use Rattle.serving.specs.declared.Request.the-variants.{Start, Mark, Drop, Touch, Look, Release, Free, Translate, Read, Write, List as Listing}
+use Rattle.parsing.specs.Grammar.{bytesIn, parsed}
+use Rattle.parsing.specs.Fields.{hexOf}
+use Rattle.parsing.specs.declared.Line.{Line}
+use Rattle.parsing.specs.declared.Line.the-variants.{Call, Bad}
+use Rattle.printing.specs.Text.{badLine, finds, text}
+
+-- "Its sizes are further limited to T at most 1,024 and F x P at most 32,768"
+abbrev pub beyond : Request → Bool
+beyond (Start s n f p) = not (leb (s * n) 1024 && leb (f * p) 32768)
+beyond (Mark i b) = false
+beyond (Drop i b) = false
+beyond (Touch i b) = false
+beyond (Look i b) = false
+beyond (Release i b) = false
+beyond Free = false
+beyond (Translate i x) = false
+beyond (Read i x) = false
+beyond (Write i x) = false
+beyond (Listing i) = false
+
+-- the call that a line's request is: a write has the bytes at the line's end, a read as many as its count, "`list`, with room for every region"
+abbrev pub lineCall : Request → ℕ → List ℕ → machine.Lent → machine.Call
+lineCall (Start s n f p) count line = requested (Start s n f p) [] []
+lineCall (Mark i b) count line = requested (Mark i b) [] []
+lineCall (Drop i b) count line = requested (Drop i b) [] []
+lineCall (Touch i b) count line = requested (Touch i b) [] []
+lineCall (Look i b) count line = requested (Look i b) [] []
+lineCall (Release i b) count line = requested (Release i b) [] []
+lineCall Free count line = requested Free [] []
+lineCall (Translate i x) count line = requested (Translate i x) [] []
+lineCall (Read i x) count line = machine.read i x count
+lineCall (Write i x) count line = machine.write i x (bytesIn (hexOf line count))
+lineCall (Listing i) count line = machine.list i 1024
+
+-- the text that answers a line, and the machine after it
+pub record Answered : Type 0 where
+  pub answer-text : List ℕ
+  pub after : machine.State
+
+-- "A start beyond the limits gives `no 1`"
+abbrev pub answeredCall : Request → ℕ → List ℕ → machine.Lent → machine.State → Bool → Answered
+answeredCall q count line l m true = record { answer-text = text false (machine.refused 1 0); after = m }
+answeredCall q count line l m false =
+    let c = lineCall q count line l in
+    record { answer-text = text (finds q) (machine.answer m c); after = machine.after m c }
+
+-- "A line it can't read gives `bad line`"
+abbrev pub answeredAs : Line → List ℕ → machine.Lent → machine.State → Answered
+answeredAs Bad line l m = record { answer-text = badLine; after = m }
+answeredAs (Call q count) line l m = answeredCall q count line l m (beyond q)
+
+abbrev pub answered : List ℕ → machine.Lent → machine.State → Answered
+answered line l m = answeredAs (parsed line) line l m

@@ -1,0 +1,131 @@
+// A session: one line in, its answer out. Who reads lines and writes answers stands on it.
+mod requests;
+
+use memory::Head;
+use parsing::Line;
+use parsing::parse;
+use printing::say;
+use printing::say_bad_line;
+use serving::Reply;
+use serving::Request;
+use serving::serve;
+ghost use Rattle.memory.specs.Memory.{memory};
+ghost use Rattle.session.specs.Filling.{CallAnswered};
+ghost use Rattle.session.specs.Room.{AnswersLine};
+
+// The head after a line, and where the line's answer ends.
+pub struct Answered {
+    pub head: Head,
+    pub end: usize,
+}
+
+// Makes the call that is requested and says its answer.
+fn answer_call(
+    head: Head,
+    request: Request,
+    out: &mut [u8],
+    at: usize,
+    bytes: &mut [u8],
+    records: &mut [u32],
+    index: &mut [u64],
+    count: &mut [u32],
+    table: &mut [u32],
+    helper: &mut [u32],
+    stack: &mut [u32],
+    cache: &mut [u32],
+    link: &mut [u32],
+    ram: &mut [u8],
+) -> Answered
+    ensures { λ r. ⌜
+        CallAnswered request
+        (memory head (now (index .entry)) (now (count .entry)) (now (table .entry)) (now (helper .entry)) (now (stack .entry)) (now (cache .entry)) (now (link .entry)) (now (ram .entry)))
+        (now (bytes .entry)) (now (records .entry)) at (now (out .entry)) (r .end)
+        (memory (r .head) (now (index .exit)) (now (count .exit)) (now (table .exit)) (now (helper .exit)) (now (stack .exit)) (now (cache .exit)) (now (link .exit)) (now (ram .exit)))
+        (now (out .exit)) ⌝ }
+{
+    let served = serve(
+        head,
+        request,
+        bytes,
+        records,
+        index,
+        count,
+        table,
+        helper,
+        stack,
+        cache,
+        link,
+        ram,
+    );
+    let next = served.head;
+    let reply = served.reply;
+    let end = say(out, at, requests::is_find(request), reply, bytes, records);
+    Answered { head: next, end }
+}
+
+// Answers a line, after the first `at` bytes of `out`. The byte buffer has 256 bytes and the records 3,072 numbers.
+pub fn answer_line(
+    head: Head,
+    line: &[u8],
+    out: &mut [u8],
+    at: usize,
+    buffer: &mut [u8],
+    records: &mut [u32],
+    index: &mut [u64],
+    count: &mut [u32],
+    table: &mut [u32],
+    helper: &mut [u32],
+    stack: &mut [u32],
+    cache: &mut [u32],
+    link: &mut [u32],
+    ram: &mut [u8],
+) -> Answered
+    ensures { λ r. ⌜
+        AnswersLine (now (line .entry))
+        (memory head (now (index .entry)) (now (count .entry)) (now (table .entry)) (now (helper .entry)) (now (stack .entry)) (now (cache .entry)) (now (link .entry)) (now (ram .entry)))
+        at (now (out .entry)) (now (buffer .entry)) (now (records .entry))
+        (r .end)
+        (memory (r .head) (now (index .exit)) (now (count .exit)) (now (table .exit)) (now (helper .exit)) (now (stack .exit)) (now (cache .exit)) (now (link .exit)) (now (ram .exit)))
+        (now (out .exit)) ⌝ }
+{
+    let said = parse(line);
+    let Line::Call(request, n) = said else {
+        return Answered {
+            head,
+            end: say_bad_line(out, at),
+        };
+    };
+    if requests::is_beyond(request) {
+        return Answered {
+            head,
+            end: say(
+                out,
+                at,
+                false,
+                Reply::Refused(1, 0),
+                &buffer[..0],
+                &records[..0],
+            ),
+        };
+    }
+    if buffer.len() < n {
+        return Answered { head, end: at };
+    }
+    requests::fill(request, line, n, buffer);
+    answer_call(
+        head,
+        request,
+        out,
+        at,
+        &mut buffer[..n],
+        records,
+        index,
+        count,
+        table,
+        helper,
+        stack,
+        cache,
+        link,
+        ram,
+    )
+}

@@ -1,0 +1,76 @@
+// What a session asks of a request besides the call itself.
+use parsing::unhex;
+use serving::Request;
+ghost use mathlib.Core.Bool.{not, _&&_};
+ghost use mathlib.Core.Path.{_≡_};
+ghost use Prim.Native.Nat.{_*_};
+ghost use lib.Dec.{leb};
+ghost use Rattle.printing.specs.Text.{finds};
+ghost use Rattle.session.specs.Session.{beyond};
+ghost use Rattle.session.specs.Filling.{Fills};
+
+fn is_large(s: u32, n: u32, f: u32, p: u32) -> bool
+    ensures { λ r. ⌜ r ≡ not (leb (s * n) 1024 && leb (f * p) 32768) ⌝ }
+{
+    if 1024 < s as u64 * n as u64 {
+        return true;
+    }
+    32768 < f as u64 * p as u64
+}
+
+// Whether it is a start beyond the session's limits.
+pub(crate) fn is_beyond(request: Request) -> bool
+    ensures { λ r. ⌜ r ≡ beyond request ⌝ }
+{
+    match request {
+        Request::Start(s, n, f, p) => is_large(s, n, f, p),
+        Request::Mark(_, _) => false,
+        Request::Drop(_, _) => false,
+        Request::Touch(_, _) => false,
+        Request::Look(_, _) => false,
+        Request::Release(_, _) => false,
+        Request::Free => false,
+        Request::Translate(_, _) => false,
+        Request::Read(_, _) => false,
+        Request::Write(_, _) => false,
+        Request::List(_) => false,
+    }
+}
+
+// Whether its refusals have index words.
+pub(crate) fn is_find(request: Request) -> bool
+    ensures { λ r. ⌜ r ≡ finds request ⌝ }
+{
+    match request {
+        Request::Start(_, _, _, _) => false,
+        Request::Mark(_, _) => false,
+        Request::Drop(_, _) => false,
+        Request::Touch(_, _) => true,
+        Request::Look(_, _) => true,
+        Request::Release(_, _) => false,
+        Request::Free => false,
+        Request::Translate(_, _) => false,
+        Request::Read(_, _) => false,
+        Request::Write(_, _) => false,
+        Request::List(_) => false,
+    }
+}
+
+// The bytes of a write, from the line's end to the front of the buffer.
+pub(crate) fn fill(request: Request, line: &[u8], n: usize, buffer: &mut [u8])
+    ensures { λ _. ⌜ Fills request (now (line .entry)) n (now (buffer .entry)) (now (buffer .exit)) ⌝ }
+{
+    match request {
+        Request::Write(_, _) => unhex(line, n, buffer),
+        Request::Start(_, _, _, _) => {}
+        Request::Mark(_, _) => {}
+        Request::Drop(_, _) => {}
+        Request::Touch(_, _) => {}
+        Request::Look(_, _) => {}
+        Request::Release(_, _) => {}
+        Request::Free => {}
+        Request::Translate(_, _) => {}
+        Request::Read(_, _) => {}
+        Request::List(_) => {}
+    }
+}

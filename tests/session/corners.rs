@@ -1,0 +1,526 @@
+// Scripts whose answers were found by hand, for scripts.rs: document 01 and the rules of a line, as
+// an adversary would read them. They hold the independent program to the rules, and so `play` too.
+use crate::traffic::{Sizes, MOST};
+
+// A line and its answer.
+pub type Said = (Vec<u8>, String);
+
+fn said(table: &[(&str, &str)]) -> Vec<Said> {
+    let owned = |(line, answer): &(&str, &str)| (line.as_bytes().to_vec(), answer.to_string());
+    table.iter().map(owned).collect()
+}
+
+fn all_bad(lines: &[Vec<u8>]) -> Vec<Said> {
+    let bad = |line: &Vec<u8>| (line.clone(), "bad line".to_string());
+    lines.iter().map(bad).collect()
+}
+
+// Every call before a start. A line that can't be read is no call.
+const EARLY: &[(&str, &str)] = &[
+    ("free", "no 1"),
+    ("mark 0 0", "no 1"),
+    ("drop 0 0", "no 1"),
+    ("touch 0 0", "no 1 0"),
+    ("look 0 0", "no 1 0"),
+    ("release 0 0", "no 1"),
+    ("translate 0 0", "no 1"),
+    ("read 0 0 0", "no 1"),
+    ("read 999999999 999999999 256", "no 1"),
+    ("read 0 0 257", "bad line"),
+    ("write 0 0", "no 1"),
+    ("write 0 0 00", "no 1"),
+    ("write 0 0 0", "bad line"),
+    ("list 0", "no 1"),
+    ("list 99", "no 1"),
+    ("touch 999999999 999999999", "no 1 0"),
+    ("start 0 8 3 256", "no 1"),
+    ("start 1 8 129 256", "no 1"),
+    ("free", "no 1"),
+    ("look 0 0", "no 1 0"),
+];
+
+// Two spaces of four pages, three frames; then a start that keeps the RAM.
+const CALLS: &[(&str, &str)] = &[
+    ("start 2 004 3 000000256", "ok"),
+    ("free", "free 3"),
+    ("list 0", "regions 0"),
+    ("list 000000001", "regions 0"),
+    ("list 2", "no 2"),
+    ("list 999999999", "no 2"),
+    ("read 0 0 0", "bytes"),
+    ("read 0 1024 0", "bytes"),
+    ("read 0 1025 0", "no 3"),
+    ("read 1 1024 1", "no 3"),
+    ("read 1 769 256", "no 3"),
+    ("read 1 768 256", "no 4"),
+    ("read 2 1025 0", "no 2"),
+    ("read 0 0 1", "no 4"),
+    ("write 0 0", "ok"),
+    ("write 0 1024", "ok"),
+    ("write 0 1025", "no 3"),
+    ("write 2 1025", "no 2"),
+    ("write 0 999999999", "no 3"),
+    ("write 0 1024 00", "no 3"),
+    ("write 0 1023 00", "no 4"),
+    ("translate 0 1024", "no 3"),
+    ("translate 0 1023", "no 4"),
+    ("translate 2 1024", "no 2"),
+    ("look 0 3", "no 4 1"),
+    ("touch 0 3", "no 4 1"),
+    ("touch 0 4", "no 3 0"),
+    ("touch 2 4", "no 2 0"),
+    ("look 999999999 999999999", "no 2 0"),
+    ("mark 0 001", "ok"),
+    ("mark 0 1", "no 6"),
+    ("mark 1 0", "ok"),
+    ("mark 1 4", "no 3"),
+    ("drop 0 0", "no 5"),
+    ("release 0 0", "no 5"),
+    ("release 0 1", "pages 0"),
+    ("look 0 1", "absent 1"),
+    ("look 0 0", "no 4 1"),
+    ("translate 0 256", "no 10"),
+    ("read 0 256 1", "no 10"),
+    ("read 0 255 2", "no 4"),
+    ("write 0 255 0102", "no 4"),
+    ("free", "free 3"),
+    ("write 0 511 0a0b", "ok"),
+    ("translate 0 511", "at 255"),
+    ("translate 0 512", "at 256"),
+    ("read 0 511 2", "bytes 0a0b"),
+    ("read 0 510 000000004", "bytes 000a0b00"),
+    ("read 0 767 2", "no 10"),
+    ("free", "free 1"),
+    ("write 1 255 0102", "no 8"),
+    ("look 1 0", "absent 1"),
+    ("free", "free 1"),
+    ("touch 1 0", "frame 2 new 1"),
+    ("touch 1 1", "no 8 1"),
+    ("look 1 1", "absent 1"),
+    ("write 1 255 01", "ok"),
+    ("write 1 256", "ok"),
+    ("write 1 256 01", "no 8"),
+    ("touch 1 0", "frame 2 old 0"),
+    ("look 1 0", "resident 2 0"),
+    ("mark 1 2", "no 7"),
+    ("drop 1 0", "no 7"),
+    ("list 0", "regions 1 1 3 2"),
+    ("list 1", "regions 1 0 4 1"),
+    ("release 0 1", "pages 2"),
+    ("touch 0 3", "frame 1 new 1"),
+    ("read 0 768 2", "bytes 0b00"),
+    ("mark 0 2", "no 7"),
+    ("release 0 1", "pages 1"),
+    ("mark 0 2", "ok"),
+    ("list 0", "regions 2 1 1 0 2 2 0"),
+    ("drop 0 1", "ok"),
+    ("look 0 1", "no 4 1"),
+    ("drop 0 2", "ok"),
+    ("list 0", "regions 0"),
+    ("start 1 1025 3 256", "no 1"),
+    ("start 65 1 3 256", "no 1"),
+    ("start 1 8 3 257", "no 1"),
+    ("touch 1 0", "frame 2 old 0"),
+    ("read 1 255 1", "bytes 01"),
+    ("start 1 1024 128 256", "ok"),
+    ("free", "free 128"),
+    ("list 0", "regions 0"),
+    ("list 1", "no 2"),
+    ("look 0 1023", "no 4 2"),
+    ("mark 0 0", "ok"),
+    ("look 0 63", "absent 1"),
+    ("look 0 64", "absent 3"),
+    ("touch 0 1023", "frame 0 new 3"),
+    ("read 0 262143 1", "bytes 0a"),
+    ("start 64 16 1 32768", "ok"),
+    ("mark 63 15", "ok"),
+    ("look 63 15", "absent 1"),
+    ("look 63 14", "no 4 2"),
+    ("mark 62 0", "ok"),
+    ("look 63 14", "no 4 1"),
+    ("write 63 524287 ff", "ok"),
+    ("translate 63 524287", "at 32767"),
+    ("read 63 524286 3", "no 3"),
+    ("read 63 524286 2", "bytes 00ff"),
+    ("read 63 491774 4", "bytes 000a0b00"),
+];
+
+// Lines that can't be read, before a start and after.
+const BAD: &[&str] = &[
+    "",
+    " ",
+    "\t",
+    "\r",
+    "\0",
+    "0",
+    "ok",
+    "bad line",
+    "no 1",
+    "quit",
+    "# free",
+    "fre",
+    "frees",
+    "fr ee",
+    "Free",
+    "FREE",
+    "free ",
+    " free",
+    "free\r",
+    "free\t",
+    "free\0",
+    "\0free",
+    "free\u{b}",
+    "free\u{a0}",
+    "free\u{2028}",
+    "\u{feff}free",
+    "free 0",
+    "free free",
+    "free;",
+    "list",
+    "list ",
+    "list 0 ",
+    "list 0 0",
+    "list  0",
+    " list 0",
+    "list\t0",
+    "list 0\t",
+    "list 0\r",
+    "list -0",
+    "list +0",
+    "list 0x0",
+    "list 0.",
+    "list 1e0",
+    "list 1_0",
+    "list 1,0",
+    "list a",
+    "list /",
+    "list :",
+    "list 0\0",
+    "list \0",
+    "list \u{660}",
+    "list \u{ff10}",
+    "list \u{b2}",
+    "list 0000000000",
+    "list 0000000001",
+    "list 1000000000",
+    "list 4294967296",
+    "list 18446744073709551616",
+    "list0",
+    "lists 0",
+    "start",
+    "start 1 8 3",
+    "start 1 8 3 ",
+    "start 1 8 3 256 ",
+    "start 1 8 3 256 0",
+    "start 1  8 3 256",
+    "start 1 8 3 0x100",
+    "start 1 8 3 -256",
+    "start -1 8 3 256",
+    "start 1 8 3 1000000000",
+    "start 0000000001 8 3 256",
+    "start 0 0 0 0 0",
+    "Start 1 8 3 256",
+    "start1 8 3 256",
+    "start 18 3 256",
+    "mark",
+    "mark 0",
+    "mark 0 ",
+    "mark 0 0 0",
+    "mark 0 0 ",
+    "mark 0  0",
+    "mark 0,0",
+    "mark 0 -1",
+    "mark 0 4294967296",
+    "marks 0 0",
+    "mar 0 0",
+    "mark0 0",
+    "drop 0",
+    "drop 0 0 0",
+    "drop 0 0\r",
+    "Drop 0 0",
+    "touch 0",
+    "touch 0 5 0",
+    "touch 0 5 # five",
+    "touch 0\t5",
+    "touch 0 05.0",
+    "touch 0 0000000005",
+    "toucH 0 5",
+    "look 0",
+    "look 0 5 0",
+    "look 0 5\0",
+    "look 5000000000 5",
+    "release 0",
+    "release 0 0 0",
+    "release  0 0",
+    "release 0 0x",
+    "translate 0",
+    "translate 0 0 0",
+    "translate 0 1099511627776",
+    "translate 0 -1",
+    "translat 0 0",
+    "read 0 0",
+    "read 0 0 ",
+    "read 0 0 -1",
+    "read 0 0 257",
+    "read 0 0 000000257",
+    "read 0 0 0000000256",
+    "read 0 0 999999999",
+    "read 0 0 4294967297",
+    "read 99 999999999 257",
+    "read 0 0 1 0",
+    "read 0 0 ff",
+    "read 0 0 1h",
+    "write",
+    "write 0",
+    "write 0 ",
+    "write 0 0 ",
+    "write 0 0  ",
+    "write 0  0",
+    "write  0 0",
+    "write 0 0\r",
+    "write 0 0 \r",
+    "write 0 0 a",
+    "write 0 0 abc",
+    "write 0 0 AB",
+    "write 0 0 aB",
+    "write 0 0 0g",
+    "write 0 0 g0",
+    "write 0 0 /0",
+    "write 0 0 0:",
+    "write 0 0 `0",
+    "write 0 0 0@",
+    "write 0 0 0x",
+    "write 0 0 0x00",
+    "write 0 0 -1",
+    "write 0 0 00 ",
+    "write 0 0  00",
+    "write 0 0 00 00",
+    "write 0 0 00\r",
+    "write 0 0 00\0",
+    "write 0 0 \0\0",
+    "write 0 0 \u{e9}",
+    "write 0 1000000000 00",
+    "write 99 999999999 0",
+    "mark 0 0;mark 0 4",
+    "mark 0 0\rmark 0 4",
+];
+
+// The same where text can't say it, or not briefly.
+fn bad_lines() -> Vec<Vec<u8>> {
+    let mut lines: Vec<Vec<u8>> = BAD.iter().map(|line| line.as_bytes().to_vec()).collect();
+    lines.push(b"\xff".to_vec());
+    lines.push(b"free\xff".to_vec());
+    lines.push(b"\xe6ree".to_vec());
+    lines.push(b"list \xb0".to_vec());
+    lines.push(b"write 0 0 \xe1\xe1".to_vec());
+    for digits in [511, 513, 514, 515, 1_024, 10_000] {
+        lines.push(["write 0 0 ", &"0".repeat(digits)].concat().into());
+    }
+    for many in [
+        507, 508, 533, 534, 535, 1_020, 4_092, 8_188, 10_000, 65_532, 65_536,
+    ] {
+        lines.push(["free", &" ".repeat(many)].concat().into());
+        lines.push([&"x".repeat(many), "free"].concat().into());
+        lines.push(["list ", &"0".repeat(many)].concat().into());
+    }
+    lines
+}
+
+// The longest line that is a call, and lines a byte longer.
+fn longest_lines() -> Vec<Said> {
+    let hex: String = (0..256).map(|byte| format!("{byte:02x}")).collect();
+    let zeros = "00".repeat(254);
+    let ok = |line: String| (line.into_bytes(), "ok".to_string());
+    let mut lines = said(&[
+        ("start 000000001 000000008 000000003 000000256", "ok"),
+        ("mark 0 0", "ok"),
+    ]);
+    lines.push(ok(format!("write 000000000 000000256 {hex}")));
+    lines.push((b"read 0 256 256".to_vec(), format!("bytes {hex}")));
+    lines.push((
+        b"read 000000000 000000511 001".to_vec(),
+        "bytes ff".to_string(),
+    ));
+    lines.push((
+        format!("write 999999999 999999999 {hex}").into(),
+        "no 2".to_string(),
+    ));
+    lines.push((format!("write 0 1793 {hex}").into(), "no 3".to_string()));
+    lines.push(ok(format!("write 0 1792 {hex}")));
+    lines.push(ok(format!("write 0 511 abcd{zeros}")));
+    lines.push((b"translate 0 767".to_vec(), "at 767".to_string()));
+    lines.push((b"read 0 511 256".to_vec(), format!("bytes abcd{zeros}")));
+    lines.push((b"read 0 510 3".to_vec(), "bytes feabcd".to_string()));
+    let longer = ["0", " ", "\r", "\0", "00", " 00"];
+    lines.extend(all_bad(
+        &longer.map(|more| format!("write 000000000 000000256 {hex}{more}").into()),
+    ));
+    lines.push((b"read 0 256 1".to_vec(), "bytes 00".to_string()));
+    lines
+}
+
+// All frames in one region: taken in order, given back newest first.
+fn whole_pool() -> Vec<Said> {
+    let mut lines = said(&[("start 1 1024 128 256", "ok"), ("mark 0 0", "ok")]);
+    for k in 0..128 {
+        // the start is in the first block of 64 only
+        let words = if k < 64 { 1 } else { 3 };
+        let answer = format!("frame {k} new {words}");
+        lines.push((format!("touch 0 {k}").into(), answer));
+    }
+    lines.extend(said(&[
+        ("free", "free 0"),
+        ("touch 0 128", "no 8 3"),
+        ("list 0", "regions 1 0 1024 128"),
+        ("release 0 0", "pages 128"),
+        ("free", "free 128"),
+    ]));
+    for k in 0..128 {
+        let answer = format!("frame {} new 3", 127 - k);
+        lines.push((format!("touch 0 {}", 896 + k).into(), answer));
+    }
+    lines.extend(said(&[("touch 0 895", "no 8 3"), ("look 0 0", "absent 1")]));
+    lines
+}
+
+pub fn corners() -> Vec<Said> {
+    let bad = all_bad(&bad_lines());
+    let mut lines = said(EARLY);
+    lines.extend(bad.clone());
+    lines.extend(said(&[("free", "no 1")]));
+    lines.extend(said(CALLS));
+    lines.extend(bad);
+    lines.extend(said(&[
+        ("read 63 491774 4", "bytes 000a0b00"),
+        ("list 63", "regions 1 15 1 1"),
+    ]));
+    lines.extend(longest_lines());
+    lines.extend(whole_pool());
+    lines.extend(limits());
+    lines
+}
+
+// Starts at the limits, accepted.
+pub const INSIDE: &[Sizes] = &[
+    Sizes(1, 1, 1, 256),
+    Sizes(1, 8, 3, 256),
+    Sizes(2, 6, 40, 256),
+    Sizes(3, 4, 9, 512),
+    Sizes(64, 16, 128, 256),
+    Sizes(64, 1, 127, 256),
+    Sizes(1, 1_024, 64, 512),
+    Sizes(2, 512, 32, 1_024),
+    Sizes(3, 341, 16, 2_048),
+    Sizes(4, 5, 8, 4_096),
+    Sizes(63, 16, 4, 8_192),
+    Sizes(1, 2, 2, 16_384),
+    Sizes(1, 1, 1, 32_768),
+];
+
+// Starts beyond them. The last ones have products that are small in 32 bits.
+pub const OUTSIDE: &[Sizes] = &[
+    Sizes(0, 8, 3, 256),
+    Sizes(65, 8, 3, 256),
+    Sizes(MOST, 8, 3, 256),
+    Sizes(1, 0, 3, 256),
+    Sizes(1, 1_025, 3, 256),
+    Sizes(2, 513, 3, 256),
+    Sizes(5, 205, 3, 256),
+    Sizes(64, 17, 3, 256),
+    Sizes(1, 262_144, 3, 256),
+    Sizes(1, 262_145, 3, 256),
+    Sizes(1, MOST, 3, 256),
+    Sizes(1, 8, 0, 256),
+    Sizes(1, 8, 129, 256),
+    Sizes(1, 8, 65, 512),
+    Sizes(1, 8, 5, 8_192),
+    Sizes(1, 8, 2, 32_768),
+    Sizes(1, 8, 65_536, 256),
+    Sizes(1, 8, 65_537, 256),
+    Sizes(1, 8, MOST, 256),
+    Sizes(1, 8, 3, 0),
+    Sizes(1, 8, 3, 1),
+    Sizes(1, 8, 3, 128),
+    Sizes(1, 8, 3, 255),
+    Sizes(1, 8, 3, 257),
+    Sizes(1, 8, 3, 300),
+    Sizes(1, 8, 3, 768),
+    Sizes(1, 8, 1, 65_536),
+    Sizes(1, 8, 1, 131_072),
+    Sizes(1, 8, 3, MOST),
+    Sizes(0, 0, 0, 0),
+    Sizes(MOST, MOST, MOST, MOST),
+    Sizes(16, 268_435_456, 3, 256),
+    Sizes(16, 268_435_457, 3, 256),
+    Sizes(65_536, 65_536, 3, 256),
+    Sizes(1, 8, 65_536, 65_536),
+    Sizes(1, 8, 16_777_216, 256),
+    Sizes(1, 8, 16_777_217, 256),
+];
+
+// A start at each limit, and that a refused one leaves what was.
+fn limits() -> Vec<Said> {
+    let line = |s: &Sizes| format!("start {} {} {} {}", s.0, s.1, s.2, s.3);
+    let mut lines = Vec::new();
+    for sizes in INSIDE {
+        lines.push((line(sizes).into(), "ok".to_string()));
+        lines.push((b"free".to_vec(), format!("free {}", sizes.2)));
+        for outside in OUTSIDE {
+            lines.push((line(outside).into(), "no 1".to_string()));
+        }
+        lines.push((b"free".to_vec(), format!("free {}", sizes.2)));
+    }
+    lines
+}
+
+// How an input can end, with its answers.
+pub fn ends() -> Vec<Said> {
+    let mut ends = said(ENDS);
+    let long = "x".repeat(70_000);
+    ends.push((long.clone().into(), "bad line\n".to_string()));
+    ends.push((
+        format!("free\n{long}").into(),
+        "no 1\nbad line\n".to_string(),
+    ));
+    let write = format!("write 000000000 000000000 {}", "ab".repeat(256));
+    let text = format!("start 1 8 3 256\nmark 0 0\n{write}");
+    ends.push((text.into(), "ok\nok\nok\n".to_string()));
+    // a border of a buffer right behind a line, inside one, and before one
+    for size in [256, 512, 1_024, 4_096, 8_192, 32_768, 65_536] {
+        let lines = size / 256;
+        let text = (long[..255].to_string() + "\n").repeat(lines);
+        let answers = "bad line\n".repeat(lines);
+        ends.push((format!("{text}free").into(), answers.clone() + "no 1\n"));
+        ends.push((format!("{}x", text.trim_end()).into(), answers.clone()));
+        ends.push((text.into(), answers));
+    }
+    ends
+}
+
+const ENDS: &[(&str, &str)] = &[
+    ("", ""),
+    ("\n", "bad line\n"),
+    ("\n\n\n", "bad line\nbad line\nbad line\n"),
+    ("free", "no 1\n"),
+    ("free\n", "no 1\n"),
+    ("free\n\n", "no 1\nbad line\n"),
+    ("free\nfree", "no 1\nno 1\n"),
+    ("free\n ", "no 1\nbad line\n"),
+    ("free\n\r", "no 1\nbad line\n"),
+    ("free\r\n", "bad line\n"),
+    ("free\rfree\n", "bad line\n"),
+    ("\nfree", "bad line\nno 1\n"),
+    ("\0", "bad line\n"),
+    ("\0\n", "bad line\n"),
+    ("free\0\nfree\n", "bad line\nno 1\n"),
+    ("free\n\0", "no 1\nbad line\n"),
+    ("touch 0", "bad line\n"),
+    ("start 1 8 3 256\nfree", "ok\nfree 3\n"),
+    ("start 1 8 3 256\nwrite 0 0", "ok\nok\n"),
+    ("start 1 8 3 256\nwrite 0 0 ", "ok\nbad line\n"),
+    ("start 1 8 3 256\nread 0 0 0", "ok\nbytes\n"),
+    ("start 1 8 3 256\nread 0 0 0\n", "ok\nbytes\n"),
+    ("start 1 8 3 256", "ok\n"),
+    ("start 1 8 3 25", "no 1\n"),
+    ("\u{1a}", "bad line\n"),
+];

@@ -1,0 +1,46 @@
+#!/usr/bin/env bash
+# Measures the program play against session.rs on one script of 1,000,000 lines: both in turn, several times, and the ratio of
+# their best times. `speed.sh PROGRAM` tries another program than target/bin/play. No part of the gate.
+set -euo pipefail
+here=$(cd "$(dirname "${BASH_SOURCE[0]}")" && pwd)
+play=${1:-$here/../../target/bin/play}
+rounds=7
+made=$(mktemp -d)
+trap 'rm -rf "$made"' EXIT
+
+fail() {
+    echo "session: $*" >&2
+    exit 1
+}
+
+# The microseconds that a program takes for the script.
+micros() {
+    local before=${EPOCHREALTIME//[.,]/}
+    "$1" < "$made/million.txt" > /dev/null
+    echo $((${EPOCHREALTIME//[.,]/} - before))
+}
+
+least() {
+    printf '%s\n' "$@" | sort -n | head -n 1
+}
+
+[ -x "$play" ] || fail "there is no program ${play#"$here/../../"}; rt check play builds it"
+rustc -O --edition 2021 -o "$made/session" "$here/session.rs"
+rustc -O --edition 2021 -o "$made/write-scripts" "$here/scripts.rs"
+"$made/write-scripts" --million "$made/million.txt"
+
+# A time counts only for the right answers.
+"$made/session" < "$made/million.txt" > "$made/independent"
+"$play" < "$made/million.txt" > "$made/play"
+cmp "$made/independent" "$made/play" || fail "the answers differ"
+
+playing=()
+plain=()
+for ((k = 0; k < rounds; k++)); do
+    playing+=("$(micros "$play")")
+    plain+=("$(micros "$made/session")")
+done
+a=$(least "${playing[@]}")
+b=$(least "${plain[@]}")
+echo "session: $(wc -l < "$made/million.txt") lines; play ${playing[*]}, independent ${plain[*]} microseconds"
+echo "session: best of $rounds: play $a, independent $b; play / independent = $((a / b)).$(printf '%03d' $((a % b * 1000 / b)))"
