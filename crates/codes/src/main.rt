@@ -1,19 +1,6 @@
 // Plays encoded calls on real buffers: document 01's session, then a write, reads, a list and codes that are no
 // calls. Writes three numbers a call, then the byte buffer and the records.
-use machine::PageSize;
-use memory::Head;
-
-fn no_head() -> Head {
-    Head {
-        spaces: 0,
-        pages: 0,
-        frames: 0,
-        page: PageSize { shift: 8 },
-        first: 0,
-        many: 0,
-        fresh: 0,
-    }
-}
+use memory::no_start;
 
 fn number(n: u64) {
     io::print_decimal(1, n);
@@ -197,7 +184,7 @@ fn main() {
     let mut link = [1u32; 4];
     let mut ram = [0u8; 800];
     playing::play(
-        no_head(),
+        no_start(),
         &codes,
         &mut replies,
         &mut bytes,

@@ -11,18 +11,13 @@ use Rattle.machine.specs.Laws.Sizes.{fit}
 use Rattle.machine.specs.declared.Listed.the-variants.{Regions, Refused}
 use Rattle.memory.specs.Memory.{Memory, memory, sizesOf}
 use Rattle.memory.specs.declared.Head.{Head}
-use Rattle.memory.specs.declared.Lengths.{Lengths}
 use Rattle.promise.specs.Holds.{Holds}
 use Rattle.promise.specs.Filled.{ListDid}
-use Rattle.laws.specs.Models.{any, checkOf}
+use Rattle.laws.specs.Models.{lentTo, checkOf}
 use Rattle.laws.specs.Checking.{Ready, ready}
 use Rattle.laws.specs.Finds.{index-passes}
 use Rattle.laws.specs.Listing.{recordsBelow, list-refused, list-short, list-filled}
 use Rattle.listing.specs.Steps.{Indexed, Counted, Many, Fillable, Fills}
-
-abbrev lentTo : ℕ → ℕ → Lengths
-lentTo index count =
-    record { index = index; count = count; table = any; helper = any; stack = any; cache = any; link = any; ram = any }
 
 -- ---- a check that passed
 

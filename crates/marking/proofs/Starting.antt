@@ -16,10 +16,10 @@ use Rattle.memory.specs.Memory.{memory, sizesOf}
 use Rattle.memory.specs.declared.Head.{Head}
 use Rattle.memory.specs.declared.Lengths.{Lengths}
 use Rattle.promise.specs.Did.{Did}
-use Rattle.laws.specs.Models.{checkOf, startHead}
+use Rattle.laws.specs.Models.{lentTo, checkOf, startHead}
 use Rattle.laws.specs.Checking.{checked-no, checked-yes, ready}
 use Rattle.laws.specs.Marking.{start-did}
-use Rattle.marking.specs.Steps.{sizes, lentTo, changeAnswer, Beginnable, Begins}
+use Rattle.marking.specs.Steps.{sizes, changeAnswer, Beginnable, Begins}
 
 pub begins : (next : Head) (t : ℕ) (ws count : List ℕ) (d : Change) (a : Answer) (ws′ count′ : List ℕ) → t ≡ places (sizesOf next)
     → Prepared t ws (index.changeSays d) ws′ → count′ ≡ replicate t 0 ++ drop t count → a ≡ changeAnswer d → Begins next ws count next a ws′ count′

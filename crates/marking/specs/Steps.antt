@@ -10,15 +10,10 @@ use Rattle.index.specs.declared.Change.{Change}
 use Rattle.machine.specs.Machine.{Sizes, places, sizesOk, Answer}
 use Rattle.memory.specs.Memory.{Memory, memory, sizesOf}
 use Rattle.memory.specs.declared.Head.{Head}
-use Rattle.memory.specs.declared.Lengths.{Lengths}
-use Rattle.laws.specs.Models.{any, changeSays, cutCount, withIndex, AsksStart, MarkIf, DropIf, Starts}
+use Rattle.laws.specs.Models.{changeSays, cutCount, withIndex, AsksStart, MarkIf, DropIf, Starts}
 
 abbrev pub sizes : ℕ → ℕ → ℕ → ℕ → Sizes
 sizes s n f p = record { spaces = s; pages = n; frames = f; page = p }
-
-abbrev pub lentTo : ℕ → ℕ → Lengths
-lentTo index count =
-    record { index = index; count = count; table = any; helper = any; stack = any; cache = any; link = any; ram = any }
 
 abbrev pub changeAnswer : Change → Answer
 changeAnswer c = changeSays (index.changeSays c)

@@ -22,7 +22,8 @@ ghost use Rattle.machine.specs.Machine as machine;
 ghost use Rattle.machine.specs.Answers.{doneSays, freeSays};
 ghost use Rattle.memory.specs.Memory.{memory};
 ghost use Rattle.promise.specs.Did.{Did};
-ghost use Rattle.marking.specs.Steps.{sizes, lentTo, changeAnswer, Beginnable, Begins, Searchable, CutPages, MarkedAt, DroppedAt};
+ghost use Rattle.laws.specs.Models.{lentTo};
+ghost use Rattle.marking.specs.Steps.{sizes, changeAnswer, Beginnable, Begins, Searchable, CutPages, MarkedAt, DroppedAt};
 
 // The lengths of a call that is lent the index and the resident counts.
 fn lent(index: usize, count: usize) -> Lengths

@@ -5,21 +5,8 @@ mod input;
 
 use board::answer_last;
 use board::answer_lines;
-use machine::PageSize;
 use memory::Head;
-
-// No start made.
-fn no_head() -> Head {
-    Head {
-        spaces: 0,
-        pages: 0,
-        frames: 0,
-        page: PageSize { shift: 8 },
-        first: 0,
-        many: 0,
-        fresh: 0,
-    }
-}
+use memory::no_start;
 
 // Garbage: numbers that could be places or frames.
 fn litter(table: &mut [u32], step: u32) {
@@ -116,7 +103,7 @@ fn run(
     link: &mut [u32],
     ram: &mut [u8],
 ) {
-    let mut head = no_head();
+    let mut head = no_start();
     let mut kept = 0;
     let mut is_long = false;
     let mut turns = u64::MAX;

@@ -15,8 +15,8 @@ abbrev μ-loop : tie.MeasureT-loop
 μ-loop input₀ out₀ buffer₀ records₀ index₀ count₀ table₀ helper₀ stack₀ cache₀ link₀ ram₀ head₀ kept₀ is-long₀ turns₀ input out buffer records index count table helper stack cache link ram head kept is-long turns =
     turns
 
-no-head-requires : tie.Need-no-head-requires Inv-loop μ-loop
-no-head-requires c κs = search needs
+no-start-requires : tie.Need-no-start-requires Inv-loop μ-loop
+no-start-requires c κs = search needs
 
 loop-holds : tie.Need-loop-holds Inv-loop μ-loop
 loop-holds c = search needs
@@ -119,7 +119,7 @@ run-spec =
     (tie.spec
     Inv-loop
     μ-loop
-    no-head-requires
+    no-start-requires
     loop-holds
     sub-turns
     take-turn-requires
