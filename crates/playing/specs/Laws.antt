@@ -1,21 +1,21 @@
 -- Playing codes: a list after another, and what follows of demands 2 and 3.
 use mathlib.Core.Path.{_≡_, refl, sym, ap, _∙_, subst}
 use mathlib.Core.List.{List, [], _∷_, _++_}
+use mathlib.Core.Logic.{inl}
 use Prim.Native.Nat.{ℕ, zero, suc, _+_, _<_}
 use native.Mathlib.Nat.{add-zero, zero-add, suc-add, add-suc}
 use native.Mathlib.Omega.{arith}
 use lib.ListN.{length}
 use Rattle.machine.specs.Machine.{Sizes, State, Lent, start, asked, accepted, Answer, done, after, Out, begun, unstarted, step}
 use Rattle.memory.specs.Memory.{Memory, sizesOf, lengths}
-use Rattle.promise.specs.Holds.{Roomy, Holds}
+use Rattle.promise.specs.Holds.{Roomy}
 use Rattle.promise.specs.Did.{Did}
 use Rattle.laws.specs.Refusals.{passed-step}
 use Rattle.demands.specs.History.{Event, Run, none, next}
 use Rattle.demands.specs.Demands.{machineAt, Demand3}
-use Rattle.demands.specs.Laws.Step.{step-follows}
 use Rattle.demands.specs.Theorems.{demand-3}
 use Rattle.serving.specs.Requests.{requested}
-use Rattle.serving.specs.Steps.{RoomFor, whole-step}
+use Rattle.serving.specs.Steps.{RoomFor, whole-step, Stands, serve-follows}
 use Rattle.serving.specs.declared.Request.{Request}
 use Rattle.serving.specs.declared.Request.the-variants.{Start, Mark, Drop, Touch, Look, Release, Free, Translate, Read, Write, List as Listing}
 use Rattle.playing.specs.declared.Parts.{Parts}
@@ -89,16 +89,16 @@ module _ (codes : List ℕ) (wholeBytes wholeRecords : ℕ) where
 
   pub record Beside (x : Played) (k′ : Memory) (d′ : Desk) : Type 0 where
     pub desk-is : d′ ≡ x .desk
-    pub holds : Holds (x .state) k′
+    pub stands : Stands (x .state) k′
 
-  pub turns-beside : {j n : ℕ} {k k′ : Memory} {d d′ : Desk} {es : List Event} (m : State) → Turns codes wholeBytes wholeRecords j n k d es k′ d′ → Holds m k
+  pub turns-beside : {j n : ℕ} {k k′ : Memory} {d d′ : Desk} {es : List Event} (m : State) → Turns codes wholeBytes wholeRecords j n k d es k′ d′ → Stands m k
       → Rooms codes wholeBytes wholeRecords j n k → Beside (plays codes wholeBytes wholeRecords (lengths k) j n (record { state = m; desk = d })) k′ d′
   unfolding plays
-  turns-beside m no-turn H rooms = record { desk-is = refl; holds = H }
-  turns-beside {j} m (skip {n = n} {k = k} e t) H rooms = rw e (turns-beside m t H (rooms-rest j n k k refl rooms))
-  turns-beside {j} m (turn {n = n} {k = k} {k₁ = k₁} {d = d} {q = q} {p = p} {a = a} e did same t) H rooms =
-      let f = step-follows m k _ k₁ H (whole-step q _ _ k a k₁ (rooms-first j n k q p e rooms) did) in
-      let rest = turns-beside (after m (called q p d (lengths k))) t (f .holds) (rooms-rest j n k k₁ same rooms) in
+  turns-beside m no-turn S rooms = record { desk-is = refl; stands = S }
+  turns-beside {j} m (skip {n = n} {k = k} e t) S rooms = rw e (turns-beside m t S (rooms-rest j n k k refl rooms))
+  turns-beside {j} m (turn {n = n} {k = k} {k₁ = k₁} {d = d} {q = q} {p = p} {a = a} e did same t) S rooms =
+      let f = serve-follows m k q _ _ a k₁ S (rooms-first j n k q p e rooms) did in
+      let rest = turns-beside (after m (called q p d (lengths k))) t (f .stands) (rooms-rest j n k k₁ same rooms) in
       rw (e, ← f .answer-is) (rw same at rest)
 
 -- ---- demands 2 and 3
@@ -138,7 +138,7 @@ from-start codes z b (turn {n = n} {k = k} {k₁ = k₁} {d = d} {q = q} {p = p}
     let rooms = rooms-rest codes bytes records 0 n k k₁ same (b .rooms) in
     let move = ap (λ (c : Code). playOne 0 (lengths k) c (record { state = unstarted (k .ram); desk = d })) e
     ∙ first-play z k d q p a same-request (begins .0) (b .accepted) in
-    let beside = turns-beside codes bytes records (begun z (k .ram)) t (begins .1 .holds room-of) rooms in
+    let beside = turns-beside codes bytes records (begun z (k .ram)) t (inl (begins .1 .holds room-of)) rooms in
     record {
       desk-is = (rw same at (beside .desk-is)) ∙ ap (λ (x : Played). plays codes bytes records (lengths k) 1 n x .desk) (sym move);
       first = _;
@@ -160,6 +160,6 @@ played codes es t =
       events = es;
       turns = t;
       demand-2 = λ z b. from-start codes z b t .desk-is;
-      honest = λ m H rooms. let b = turns-beside codes _ _ m t H rooms in (b .desk-is, b .holds);
+      honest = λ m S rooms. let b = turns-beside codes _ _ m t S rooms in (b .desk-is, b .stands);
       demand-3 = λ z b. let f = from-start codes z b t in (f .first, f .later, f .events-are, f .demand);
     }

@@ -5,10 +5,9 @@ use Prim.Native.Nat.{ℕ, _+_, _<_}
 use lib.ListN.{length}
 use Rattle.machine.specs.Machine.{Sizes, State, start, asked, unstarted}
 use Rattle.memory.specs.Memory.{Memory, lengths}
-use Rattle.promise.specs.Holds.{Holds}
 use Rattle.demands.specs.History.{Event}
 use Rattle.demands.specs.Demands.{machineAt, Demand3}
-use Rattle.serving.specs.Steps.{RoomFor}
+use Rattle.serving.specs.Steps.{RoomFor, Stands}
 use Rattle.serving.specs.declared.Request.the-variants as request-is
 use Rattle.playing.specs.declared.Parts.{Parts}
 use Rattle.playing.specs.declared.Code.{Code}
@@ -53,7 +52,7 @@ module _ (codes : List ℕ) (n : ℕ) (k : Memory) (d : Desk) where
     pub turns : Turns codes wholeBytes wholeRecords 0 n k d events k′ d′
     -- "From an accepted start, .. every answer is the plain machine's, whatever the five unprepared tables held"
     pub demand-2 : (z : Sizes) → Begun z → d′ ≡ byMachine (unstarted (k .ram)) .desk
-    -- and where the memory stands for a machine already
-    pub honest : (m : State) → Holds m k → Rooms codes wholeBytes wholeRecords 0 n k → (d′ ≡ byMachine m .desk) × Holds (byMachine m .state) k′
+    -- and where the memory stands for a machine already, started or not
+    pub honest : (m : State) → Stands m k → Rooms codes wholeBytes wholeRecords 0 n k → (d′ ≡ byMachine m .desk) × Stands (byMachine m .state) k′
     -- "One claim over every sequence of calls": of the calls after the start
     pub demand-3 : (z : Sizes) → Begun z → (e : Event) × (es : List Event) × (events ≡ e ∷ es) × Demand3 z k es k′ (machineAt z k es)
