@@ -7,6 +7,7 @@ use board::answer_last;
 use board::answer_lines;
 use memory::Head;
 use memory::no_start;
+ghost use Prim.Native.Nat.{_<_};
 
 // Garbage: numbers that could be places or frames.
 fn litter(table: &mut [u32], step: u32) {
@@ -88,6 +89,13 @@ fn take_turn(
     }
 }
 
+fn turns_left(turns: u64, is_more: bool) -> u64
+    requires { ⌜ 0 < turns ⌝ }
+    ensures { λ r. ⌜ r < turns ⌝ }
+{
+    if is_more { turns - 1 } else { 0 }
+}
+
 // Turn after turn until the input ends; a proved loop has to end, and no input uses up so many turns.
 fn run(
     input: &mut [u8],
@@ -108,7 +116,6 @@ fn run(
     let mut is_long = false;
     let mut turns = u64::MAX;
     while 0 < turns {
-        turns -= 1;
         let turn = take_turn(
             head,
             kept,
@@ -130,9 +137,7 @@ fn run(
         head = next;
         kept = turn.kept;
         is_long = turn.is_long;
-        if !turn.is_more {
-            turns = 0;
-        }
+        turns = turns_left(turns, turn.is_more);
     }
     answer_last(
         head,

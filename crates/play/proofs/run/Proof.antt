@@ -1,6 +1,5 @@
 -- The turns run out; the buffers keep their lengths.
 use mathlib.Core.Path.{_≡_, _∙_}
-use native.Mathlib.Omega.{arith}
 use borrow.Author.Needs.{needs}
 use lib.ListN.{length}
 use Rattle.play.proofs.Buffers.{Kept}
@@ -21,94 +20,122 @@ no-start-requires c κs = search needs
 loop-holds : tie.Need-loop-holds Inv-loop μ-loop
 loop-holds c = search needs
 
-sub-turns : tie.Need-sub-turns Inv-loop μ-loop
-sub-turns c = search needs
-
 take-turn-requires : tie.Need-take-turn-requires Inv-loop μ-loop
 take-turn-requires c κs = search needs
 
+turns-left-requires : tie.Need-turns-left-requires Inv-loop μ-loop
+turns-left-requires c κs = c .before .before .before .before .before .before .before .before .before .before .before .before .before .before .before .before .before .before .before .before .before .before .before .before .before .before .before .before .before .before .before .before .before .before .before .before .before .before .loop-test .taken
+
 loop-less : tie.Need-loop-less Inv-loop μ-loop
-loop-less c = omega (arith, c .before .before .before .before .before .before .before .before .before .before .before .before .before .before .before .before .before .before .before .before .before .before .before .before .before .before .before .before .before .before .before .before .before .before .before .before .before .before .before .before .loop-test .taken)
+loop-less c = c .turns-left .ensures
 
 loop-again : tie.Need-loop-again Inv-loop μ-loop
 loop-again c =
-    let l = c .before .before .before .before .before .before .before .before .before .before .before .before .before .before .before .before .before .before .before .before .before .before .before .before .before .before .before .before .before .before .before .before .before .before .before .before .before .before .before .before .before .loop .inv in (
-      c .before .before .before .before .before .before .before .before .before .before .before .before .before .before .before .before .before .before .before .before .before .before .before .before .before .before .input .given ∙ l .0,
+    let ram = c .before .before .before in
+    let link = ram .before .before in
+    let cache = link .before .before in
+    let stack = cache .before .before in
+    let helper = stack .before .before in
+    let table = helper .before .before in
+    let count = table .before .before in
+    let index = count .before .before in
+    let records = index .before .before in
+    let buffer = records .before .before in
+    let out = buffer .before .before in
+    let input = out .before .before in
+    let l = input .before .before .before .before .before .before .before .before .before .before .before .before .before .before .before .loop .inv in (
+      input .input .given ∙ l .0,
       record {
-        out-long = c .before .before .before .before .before .before .before .before .before .before .before .before .before .before .before .before .before .before .before .before .before .before .before .before .out .given ∙ l .1 .out-long;
-        buffer-long = c .before .before .before .before .before .before .before .before .before .before .before .before .before .before .before .before .before .before .before .before .before .before .buffer .given ∙ l .1 .buffer-long;
-        records-long = c .before .before .before .before .before .before .before .before .before .before .before .before .before .before .before .before .before .before .before .before .records .given ∙ l .1 .records-long;
-        index-long = c .before .before .before .before .before .before .before .before .before .before .before .before .before .before .before .before .before .before .index .given ∙ l .1 .index-long;
-        count-long = c .before .before .before .before .before .before .before .before .before .before .before .before .before .before .before .before .count .given ∙ l .1 .count-long;
-        table-long = c .before .before .before .before .before .before .before .before .before .before .before .before .before .before .table .given ∙ l .1 .table-long;
-        helper-long = c .before .before .before .before .before .before .before .before .before .before .before .before .helper .given ∙ l .1 .helper-long;
-        stack-long = c .before .before .before .before .before .before .before .before .before .before .stack .given ∙ l .1 .stack-long;
-        cache-long = c .before .before .before .before .before .before .before .before .cache .given ∙ l .1 .cache-long;
-        link-long = c .before .before .before .before .before .before .link .given ∙ l .1 .link-long;
-        ram-long = c .before .before .before .before .ram .given ∙ l .1 .ram-long;
+        out-long = out .out .given ∙ l .1 .out-long;
+        buffer-long = buffer .buffer .given ∙ l .1 .buffer-long;
+        records-long = records .records .given ∙ l .1 .records-long;
+        index-long = index .index .given ∙ l .1 .index-long;
+        count-long = count .count .given ∙ l .1 .count-long;
+        table-long = table .table .given ∙ l .1 .table-long;
+        helper-long = helper .helper .given ∙ l .1 .helper-long;
+        stack-long = stack .stack .given ∙ l .1 .stack-long;
+        cache-long = cache .cache .given ∙ l .1 .cache-long;
+        link-long = link .link .given ∙ l .1 .link-long;
+        ram-long = ram .ram .given ∙ l .1 .ram-long;
       },
     )
 
-loop-less-2 : tie.Need-loop-less-2 Inv-loop μ-loop
-loop-less-2 c = omega (arith, c .before .before .before .before .before .before .before .before .before .before .before .before .before .before .before .before .before .before .before .before .before .before .before .before .before .before .before .before .before .before .before .before .before .before .before .before .before .before .before .before .loop-test .taken)
+-- each buffer as the last answer gave it back
+abbrev back-ram : tie.After-slice-known35 Inv-loop μ-loop → tie.After-ram2 Inv-loop μ-loop
+back-ram c = c .before
 
-loop-again-2 : tie.Need-loop-again-2 Inv-loop μ-loop
-loop-again-2 c =
-    let l = c .before .before .before .before .before .before .before .before .before .before .before .before .before .before .before .before .before .before .before .before .before .before .before .before .before .before .before .before .before .before .before .before .before .before .before .before .before .before .before .before .before .loop .inv in (
-      c .before .before .before .before .before .before .before .before .before .before .before .before .before .before .before .before .before .before .before .before .before .before .before .before .before .before .input .given ∙ l .0,
-      record {
-        out-long = c .before .before .before .before .before .before .before .before .before .before .before .before .before .before .before .before .before .before .before .before .before .before .before .before .out .given ∙ l .1 .out-long;
-        buffer-long = c .before .before .before .before .before .before .before .before .before .before .before .before .before .before .before .before .before .before .before .before .before .before .buffer .given ∙ l .1 .buffer-long;
-        records-long = c .before .before .before .before .before .before .before .before .before .before .before .before .before .before .before .before .before .before .before .before .records .given ∙ l .1 .records-long;
-        index-long = c .before .before .before .before .before .before .before .before .before .before .before .before .before .before .before .before .before .before .index .given ∙ l .1 .index-long;
-        count-long = c .before .before .before .before .before .before .before .before .before .before .before .before .before .before .before .before .count .given ∙ l .1 .count-long;
-        table-long = c .before .before .before .before .before .before .before .before .before .before .before .before .before .before .table .given ∙ l .1 .table-long;
-        helper-long = c .before .before .before .before .before .before .before .before .before .before .before .before .helper .given ∙ l .1 .helper-long;
-        stack-long = c .before .before .before .before .before .before .before .before .before .before .stack .given ∙ l .1 .stack-long;
-        cache-long = c .before .before .before .before .before .before .before .before .cache .given ∙ l .1 .cache-long;
-        link-long = c .before .before .before .before .before .before .link .given ∙ l .1 .link-long;
-        ram-long = c .before .before .before .before .ram .given ∙ l .1 .ram-long;
-      },
-    )
+abbrev back-link : tie.After-slice-known35 Inv-loop μ-loop → tie.After-link2 Inv-loop μ-loop
+back-link c = back-ram c .before .before
+
+abbrev back-cache : tie.After-slice-known35 Inv-loop μ-loop → tie.After-cache2 Inv-loop μ-loop
+back-cache c = back-link c .before .before
+
+abbrev back-stack : tie.After-slice-known35 Inv-loop μ-loop → tie.After-stack2 Inv-loop μ-loop
+back-stack c = back-cache c .before .before
+
+abbrev back-helper : tie.After-slice-known35 Inv-loop μ-loop → tie.After-helper2 Inv-loop μ-loop
+back-helper c = back-stack c .before .before
+
+abbrev back-table : tie.After-slice-known35 Inv-loop μ-loop → tie.After-table2 Inv-loop μ-loop
+back-table c = back-helper c .before .before
+
+abbrev back-count : tie.After-slice-known35 Inv-loop μ-loop → tie.After-count2 Inv-loop μ-loop
+back-count c = back-table c .before .before
+
+abbrev back-index : tie.After-slice-known35 Inv-loop μ-loop → tie.After-index2 Inv-loop μ-loop
+back-index c = back-count c .before .before
+
+abbrev back-records : tie.After-slice-known35 Inv-loop μ-loop → tie.After-records2 Inv-loop μ-loop
+back-records c = back-index c .before .before
+
+abbrev back-buffer : tie.After-slice-known35 Inv-loop μ-loop → tie.After-buffer2 Inv-loop μ-loop
+back-buffer c = back-records c .before .before
+
+abbrev back-out : tie.After-slice-known35 Inv-loop μ-loop → tie.After-out2 Inv-loop μ-loop
+back-out c = back-buffer c .before .before
+
+-- and the loop before it
+abbrev at-loop : tie.After-slice-known35 Inv-loop μ-loop → tie.At-loop Inv-loop μ-loop
+at-loop c = back-out c .before .before .before .before .before .before .before .before .before .before .before .before .before .before .before
 
 answer-last-requires : tie.Need-answer-last-requires Inv-loop μ-loop
 answer-last-requires c κs = search needs
 
 same-length : tie.Need-same-length Inv-loop μ-loop
-same-length c = c .before .before .before .before .before .before .before .before .before .before .before .before .before .before .before .before .before .before .before .before .before .before .before .before .before .before .before .before .before .before .before .before .before .before .before .before .loop .inv .0
+same-length c = at-loop c .loop .inv .0
 
 same-length-2 : tie.Need-same-length-2 Inv-loop μ-loop
-same-length-2 c = c .before .before .before .before .before .before .before .before .before .before .before .before .before .before .before .before .before .before .before .before .before .out2 .given ∙ c .before .before .before .before .before .before .before .before .before .before .before .before .before .before .before .before .before .before .before .before .before .before .before .before .before .before .before .before .before .before .before .before .before .before .before .before .loop .inv .1 .out-long
+same-length-2 c = back-out c .out2 .given ∙ at-loop c .loop .inv .1 .out-long
 
 same-length-3 : tie.Need-same-length-3 Inv-loop μ-loop
-same-length-3 c = c .before .before .before .before .before .before .before .before .before .before .before .before .before .before .before .before .before .before .before .buffer2 .given ∙ c .before .before .before .before .before .before .before .before .before .before .before .before .before .before .before .before .before .before .before .before .before .before .before .before .before .before .before .before .before .before .before .before .before .before .before .before .loop .inv .1 .buffer-long
+same-length-3 c = back-buffer c .buffer2 .given ∙ at-loop c .loop .inv .1 .buffer-long
 
 same-length-4 : tie.Need-same-length-4 Inv-loop μ-loop
-same-length-4 c = c .before .before .before .before .before .before .before .before .before .before .before .before .before .before .before .before .before .records2 .given ∙ c .before .before .before .before .before .before .before .before .before .before .before .before .before .before .before .before .before .before .before .before .before .before .before .before .before .before .before .before .before .before .before .before .before .before .before .before .loop .inv .1 .records-long
+same-length-4 c = back-records c .records2 .given ∙ at-loop c .loop .inv .1 .records-long
 
 same-length-5 : tie.Need-same-length-5 Inv-loop μ-loop
-same-length-5 c = c .before .before .before .before .before .before .before .before .before .before .before .before .before .before .before .index2 .given ∙ c .before .before .before .before .before .before .before .before .before .before .before .before .before .before .before .before .before .before .before .before .before .before .before .before .before .before .before .before .before .before .before .before .before .before .before .before .loop .inv .1 .index-long
+same-length-5 c = back-index c .index2 .given ∙ at-loop c .loop .inv .1 .index-long
 
 same-length-6 : tie.Need-same-length-6 Inv-loop μ-loop
-same-length-6 c = c .before .before .before .before .before .before .before .before .before .before .before .before .before .count2 .given ∙ c .before .before .before .before .before .before .before .before .before .before .before .before .before .before .before .before .before .before .before .before .before .before .before .before .before .before .before .before .before .before .before .before .before .before .before .before .loop .inv .1 .count-long
+same-length-6 c = back-count c .count2 .given ∙ at-loop c .loop .inv .1 .count-long
 
 same-length-7 : tie.Need-same-length-7 Inv-loop μ-loop
-same-length-7 c = c .before .before .before .before .before .before .before .before .before .before .before .table2 .given ∙ c .before .before .before .before .before .before .before .before .before .before .before .before .before .before .before .before .before .before .before .before .before .before .before .before .before .before .before .before .before .before .before .before .before .before .before .before .loop .inv .1 .table-long
+same-length-7 c = back-table c .table2 .given ∙ at-loop c .loop .inv .1 .table-long
 
 same-length-8 : tie.Need-same-length-8 Inv-loop μ-loop
-same-length-8 c = c .before .before .before .before .before .before .before .before .before .helper2 .given ∙ c .before .before .before .before .before .before .before .before .before .before .before .before .before .before .before .before .before .before .before .before .before .before .before .before .before .before .before .before .before .before .before .before .before .before .before .before .loop .inv .1 .helper-long
+same-length-8 c = back-helper c .helper2 .given ∙ at-loop c .loop .inv .1 .helper-long
 
 same-length-9 : tie.Need-same-length-9 Inv-loop μ-loop
-same-length-9 c = c .before .before .before .before .before .before .before .stack2 .given ∙ c .before .before .before .before .before .before .before .before .before .before .before .before .before .before .before .before .before .before .before .before .before .before .before .before .before .before .before .before .before .before .before .before .before .before .before .before .loop .inv .1 .stack-long
+same-length-9 c = back-stack c .stack2 .given ∙ at-loop c .loop .inv .1 .stack-long
 
 same-length-10 : tie.Need-same-length-10 Inv-loop μ-loop
-same-length-10 c = c .before .before .before .before .before .cache2 .given ∙ c .before .before .before .before .before .before .before .before .before .before .before .before .before .before .before .before .before .before .before .before .before .before .before .before .before .before .before .before .before .before .before .before .before .before .before .before .loop .inv .1 .cache-long
+same-length-10 c = back-cache c .cache2 .given ∙ at-loop c .loop .inv .1 .cache-long
 
 same-length-11 : tie.Need-same-length-11 Inv-loop μ-loop
-same-length-11 c = c .before .before .before .link2 .given ∙ c .before .before .before .before .before .before .before .before .before .before .before .before .before .before .before .before .before .before .before .before .before .before .before .before .before .before .before .before .before .before .before .before .before .before .before .before .loop .inv .1 .link-long
+same-length-11 c = back-link c .link2 .given ∙ at-loop c .loop .inv .1 .link-long
 
 same-length-12 : tie.Need-same-length-12 Inv-loop μ-loop
-same-length-12 c = c .before .ram2 .given ∙ c .before .before .before .before .before .before .before .before .before .before .before .before .before .before .before .before .before .before .before .before .before .before .before .before .before .before .before .before .before .before .before .before .before .before .before .before .loop .inv .1 .ram-long
+same-length-12 c = back-ram c .ram2 .given ∙ at-loop c .loop .inv .1 .ram-long
 
 returns : tie.Need-returns Inv-loop μ-loop
 returns c = search needs
@@ -121,12 +148,10 @@ run-spec =
     μ-loop
     no-start-requires
     loop-holds
-    sub-turns
     take-turn-requires
+    turns-left-requires
     loop-less
     loop-again
-    loop-less-2
-    loop-again-2
     answer-last-requires
     same-length
     same-length-2

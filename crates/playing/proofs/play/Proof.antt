@@ -118,20 +118,31 @@ loop-less c = omega (arith, c .before .before .before .before .before .before .b
 
 loop-again : tie.Need-loop-again Inv-loop μ-loop
 loop-again c =
-    let done = c .before .before .before .before .before .before .before .before .before .before .before .before .before .before .before .before .before .before .before .before .before .before in
-    let l = c .before .before .before .before .before .before .before .before .before .before .before .before .before .before .before .before .before .before .before .before .before .before .before .before .before .before .before .before .before .before .before .before .before .before .before .before .before .before .before in
+    let ram = c .before in
+    let link = ram .before .before in
+    let cache = link .before .before in
+    let stack = cache .before .before in
+    let helper = stack .before .before in
+    let table = helper .before .before in
+    let count = table .before .before in
+    let index = count .before .before in
+    let records = index .before .before in
+    let bytes = records .before .before in
+    let replies = bytes .before .before in
+    let done = replies .before in
+    let l = done .before .before .before .before .before .before .before .before .before .before .before .before .before .before .before .before .before in
     playing-more _ _ _ _ _ _ _ (l .before .loop .inv) (l .loop-test .taken) _ _ _ _
     (record {
-      index = c .before .before .before .before .before .before .before .before .before .before .before .before .before .before .before .index .given;
-      count = c .before .before .before .before .before .before .before .before .before .before .before .before .before .count .given;
-      table = c .before .before .before .before .before .before .before .before .before .before .before .table .given;
-      helper = c .before .before .before .before .before .before .before .before .before .helper .given;
-      stack = c .before .before .before .before .before .before .before .stack .given;
-      cache = c .before .before .before .before .before .cache .given;
-      link = c .before .before .before .link .given;
-      ram = c .before .ram .given;
+      index = index .index .given;
+      count = count .count .given;
+      table = table .table .given;
+      helper = helper .helper .given;
+      stack = stack .stack .given;
+      cache = cache .cache .given;
+      link = link .link .given;
+      ram = ram .ram .given;
     })
-    (c .before .before .before .before .before .before .before .before .before .before .before .before .before .before .before .before .before .before .before .before .before .replies .given .0) (c .before .before .before .before .before .before .before .before .before .before .before .before .before .before .before .before .before .before .before .bytes .given) (c .before .before .before .before .before .before .before .before .before .before .before .before .before .before .before .before .before .records .given) (done .play-one .ensures)
+    (replies .replies .given .0) (bytes .bytes .given) (records .records .given) (done .play-one .ensures)
 
 same-length : tie.Need-same-length Inv-loop μ-loop
 same-length c = search needs

@@ -32,24 +32,36 @@ add-from c = omega (arith, c .before .before .before .before .before .before .be
 
 loop-less : tie.Need-loop-less Inv-loop μ-loop
 loop-less c =
-    let t = c .before .before .before .before .before .before .before .before .before .before .before .before .before .before .before .before .before .before .before .before .before .before .before .before .before .before .before .before .before .before .before .before .before .before .before .before .before .before .before in
-    omega (arith, c .before .before .before .before .before .before .before .before .before .before .before .before .before .before .before .before .before .before .before .before .before .before .before .before .before .before .before .before .before .before .before .before .before .before .before .before .before .if1 .left, t .loop-test .taken, c .before .before .before .before .before .before .before .before .before .before .before .before .before .before .before .before .before .before .before .before .before .before .before .before .before .before .before .before .before .before .before .before .before .before .before .before .before .before .line-end .ensures (omega (arith, t .loop-test .taken)))
+    let t = c .before .before .before .before .before .before .before .before .before .before .before .before .before .before .before .before .before .before .before .before .before .before .before .before .before .before .before .before .before .before .before .before .before .before .before .before .before in
+    let e = t .before in
+    omega (arith, t .if1 .left, e .before .loop-test .taken, e .line-end .ensures (omega (arith, e .before .loop-test .taken)))
 
 loop-again : tie.Need-loop-again Inv-loop μ-loop
 loop-again c =
-    let l = c .before .before .before .before .before .before .before .before .before .before .before .before .before .before .before .before .before .before .before .before .before .before .before .before .before .before .before .before .before .before .before .before .before .before .before .before .before .before .before .before .loop .inv in
+    let ram = c .before .before .before .before in
+    let link = ram .before .before in
+    let cache = link .before .before in
+    let stack = cache .before .before in
+    let helper = stack .before .before in
+    let table = helper .before .before in
+    let count = table .before .before in
+    let index = count .before .before in
+    let records = index .before .before in
+    let buffer = records .before .before in
+    let out = buffer .before .before in
+    let l = out .before .before .before .before .before .before .before .before .before .before .before .before .before .before .before .before .loop .inv in
     record {
-      out-long = c .before .before .before .before .before .before .before .before .before .before .before .before .before .before .before .before .before .before .before .before .before .before .before .before .out .given ∙ l .out-long;
-      buffer-long = c .before .before .before .before .before .before .before .before .before .before .before .before .before .before .before .before .before .before .before .before .before .before .buffer .given ∙ l .buffer-long;
-      records-long = c .before .before .before .before .before .before .before .before .before .before .before .before .before .before .before .before .before .before .before .before .records .given ∙ l .records-long;
-      index-long = c .before .before .before .before .before .before .before .before .before .before .before .before .before .before .before .before .before .before .index .given ∙ l .index-long;
-      count-long = c .before .before .before .before .before .before .before .before .before .before .before .before .before .before .before .before .count .given ∙ l .count-long;
-      table-long = c .before .before .before .before .before .before .before .before .before .before .before .before .before .before .table .given ∙ l .table-long;
-      helper-long = c .before .before .before .before .before .before .before .before .before .before .before .before .helper .given ∙ l .helper-long;
-      stack-long = c .before .before .before .before .before .before .before .before .before .before .stack .given ∙ l .stack-long;
-      cache-long = c .before .before .before .before .before .before .before .before .cache .given ∙ l .cache-long;
-      link-long = c .before .before .before .before .before .before .link .given ∙ l .link-long;
-      ram-long = c .before .before .before .before .ram .given ∙ l .ram-long;
+      out-long = out .out .given ∙ l .out-long;
+      buffer-long = buffer .buffer .given ∙ l .buffer-long;
+      records-long = records .records .given ∙ l .records-long;
+      index-long = index .index .given ∙ l .index-long;
+      count-long = count .count .given ∙ l .count-long;
+      table-long = table .table .given ∙ l .table-long;
+      helper-long = helper .helper .given ∙ l .helper-long;
+      stack-long = stack .stack .given ∙ l .stack-long;
+      cache-long = cache .cache .given ∙ l .cache-long;
+      link-long = link .link .given ∙ l .link-long;
+      ram-long = ram .ram .given ∙ l .ram-long;
     }
 
 write-requires : tie.Need-write-requires Inv-loop μ-loop
