@@ -1,0 +1,270 @@
+// The board's entrance: the pager's calls with the head lent and changed in place.
+use machine::Copied;
+use machine::Done;
+use machine::Free;
+use machine::Listed;
+use machine::Looked;
+use machine::Released;
+use machine::Touched;
+use machine::Translated;
+use memory::Head;
+ghost use mathlib.Core.List.{List};
+ghost use Prim.Native.Nat.{ℕ};
+ghost use Rattle.machine.specs.Machine as machine;
+ghost use Rattle.machine.specs.Answers.{doneSays, freeSays, touchedSays, lookedSays, releasedSays, translatedSays};
+ghost use Rattle.memory.specs.Memory.{memory};
+ghost use Rattle.promise.specs.Did.{Did};
+ghost use Rattle.promise.specs.Filled.{ReadDid, ListDid};
+ghost use Rattle.marking.specs.Steps.{sizes};
+
+// Sets the sizes: no starts, every frame in the pool. Five tables and the RAM may hold anything.
+pub fn start(
+    head: &mut Head,
+    spaces: u32,
+    pages: u32,
+    frames: u32,
+    page: u32,
+    index: &mut [u64],
+    count: &mut [u32],
+) -> Done
+    ensures { λ r. ⌜ ((table helper stack cache link ram : List ℕ) →
+        Did (machine.start (sizes spaces pages frames page))
+        (memory (now (head .entry)) (now (index .entry)) (now (count .entry)) table helper stack cache link ram)
+        (doneSays r)
+        (memory (now (head .exit)) (now (index .exit)) (now (count .exit)) table helper stack cache link ram)) ⌝ }
+{
+    let out = marking::start(*head, spaces, pages, frames, page, index, count);
+    *head = out.head;
+    out.answer
+}
+
+// Adds a start.
+pub fn mark(head: &Head, space: u32, page: u32, index: &mut [u64], count: &[u32]) -> Done
+    ensures { λ r. ⌜ ((table helper stack cache link ram : List ℕ) →
+        Did (machine.mark space page)
+        (memory (now (head .entry)) (now (index .entry)) (now (count .entry)) table helper stack cache link ram)
+        (doneSays r)
+        (memory (now (head .entry)) (now (index .exit)) (now (count .entry)) table helper stack cache link ram)) ⌝ }
+{
+    marking::mark(*head, space, page, index, count)
+}
+
+// Removes a start whose region has no resident page.
+pub fn drop(head: &Head, space: u32, page: u32, index: &mut [u64], count: &[u32]) -> Done
+    ensures { λ r. ⌜ ((table helper stack cache link ram : List ℕ) →
+        Did (machine.drop space page)
+        (memory (now (head .entry)) (now (index .entry)) (now (count .entry)) table helper stack cache link ram)
+        (doneSays r)
+        (memory (now (head .entry)) (now (index .exit)) (now (count .entry)) table helper stack cache link ram)) ⌝ }
+{
+    marking::drop(*head, space, page, index, count)
+}
+
+// The page's frame, mapped if need be.
+pub fn touch(
+    head: &mut Head,
+    space: u32,
+    page: u32,
+    index: &[u64],
+    count: &mut [u32],
+    table: &mut [u32],
+    helper: &mut [u32],
+    stack: &mut [u32],
+    cache: &mut [u32],
+    link: &mut [u32],
+) -> Touched
+    ensures { λ r. ⌜ ((ram : List ℕ) →
+        Did (machine.touch space page)
+        (memory (now (head .entry)) (now (index .entry)) (now (count .entry)) (now (table .entry)) (now (helper .entry)) (now (stack .entry)) (now (cache .entry)) (now (link .entry)) ram)
+        (touchedSays r)
+        (memory (now (head .exit)) (now (index .entry)) (now (count .exit)) (now (table .exit)) (now (helper .exit)) (now (stack .exit)) (now (cache .exit)) (now (link .exit)) ram)) ⌝ }
+{
+    let out = touching::touch(
+        *head,
+        space,
+        page,
+        index,
+        count,
+        table,
+        helper,
+        stack,
+        cache,
+        link,
+    );
+    *head = out.head;
+    out.answer
+}
+
+// Whether a page is resident, and its frame. Changes nothing.
+pub fn look(
+    head: &Head,
+    space: u32,
+    page: u32,
+    index: &[u64],
+    count: &[u32],
+    table: &[u32],
+    helper: &[u32],
+    stack: &[u32],
+    cache: &[u32],
+) -> Looked
+    ensures { λ r. ⌜ ((link ram : List ℕ) →
+        Did (machine.look space page)
+        (memory (now (head .entry)) (now (index .entry)) (now (count .entry)) (now (table .entry)) (now (helper .entry)) (now (stack .entry)) (now (cache .entry)) link ram)
+        (lookedSays r)
+        (memory (now (head .entry)) (now (index .entry)) (now (count .entry)) (now (table .entry)) (now (helper .entry)) (now (stack .entry)) (now (cache .entry)) link ram)) ⌝ }
+{
+    lookup::look(
+        *head,
+        space,
+        page,
+        index,
+        count,
+        table,
+        helper,
+        stack,
+        cache,
+    )
+}
+
+// Gives back every page of the region that starts at a page, in constant time.
+pub fn release(
+    head: &mut Head,
+    space: u32,
+    page: u32,
+    index: &[u64],
+    count: &mut [u32],
+    table: &[u32],
+    stack: &[u32],
+    link: &mut [u32],
+) -> Released
+    ensures { λ r. ⌜ ((helper cache ram : List ℕ) →
+        Did (machine.release space page)
+        (memory (now (head .entry)) (now (index .entry)) (now (count .entry)) (now (table .entry)) helper (now (stack .entry)) cache (now (link .entry)) ram)
+        (releasedSays r)
+        (memory (now (head .exit)) (now (index .entry)) (now (count .exit)) (now (table .entry)) helper (now (stack .entry)) cache (now (link .exit)) ram)) ⌝ }
+{
+    let out = releasing::release(*head, space, page, index, count, table, stack, link);
+    *head = out.head;
+    out.answer
+}
+
+// The frames in the pool. Lent nothing but the head.
+pub fn free(head: &Head) -> Free
+    ensures { λ r. ⌜ ((index count table helper stack cache link ram : List ℕ) →
+        Did (λ _. machine.free) (memory (now (head .entry)) index count table helper stack cache link ram) (freeSays r) (memory (now (head .entry)) index count table helper stack cache link ram)) ⌝ }
+{
+    marking::free(*head)
+}
+
+// The place in RAM of an address.
+pub fn translate(
+    head: &Head,
+    space: u32,
+    address: usize,
+    index: &[u64],
+    count: &[u32],
+    table: &[u32],
+    helper: &[u32],
+    stack: &[u32],
+    cache: &[u32],
+) -> Translated
+    ensures { λ r. ⌜ ((link ram : List ℕ) →
+        Did (machine.translate space address)
+        (memory (now (head .entry)) (now (index .entry)) (now (count .entry)) (now (table .entry)) (now (helper .entry)) (now (stack .entry)) (now (cache .entry)) link ram)
+        (translatedSays r)
+        (memory (now (head .entry)) (now (index .entry)) (now (count .entry)) (now (table .entry)) (now (helper .entry)) (now (stack .entry)) (now (cache .entry)) link ram)) ⌝ }
+{
+    reading::translate(
+        *head,
+        space,
+        address,
+        index,
+        count,
+        table,
+        helper,
+        stack,
+        cache,
+    )
+}
+
+// The bytes of a span into the caller's buffer: every page is looked up before the first byte is copied.
+pub fn read(
+    head: &Head,
+    space: u32,
+    address: usize,
+    buffer: &mut [u8],
+    index: &[u64],
+    count: &[u32],
+    table: &[u32],
+    helper: &[u32],
+    stack: &[u32],
+    cache: &[u32],
+    ram: &[u8],
+) -> Copied
+    ensures { λ r. ⌜ ((link : List ℕ) →
+        ReadDid space address
+        (memory (now (head .entry)) (now (index .entry)) (now (count .entry)) (now (table .entry)) (now (helper .entry)) (now (stack .entry)) (now (cache .entry)) link (now (ram .entry)))
+        r (now (buffer .entry)) (now (buffer .exit))) ⌝ }
+{
+    reading::read(
+        *head,
+        space,
+        address,
+        buffer,
+        index,
+        count,
+        table,
+        helper,
+        stack,
+        cache,
+        ram,
+    )
+}
+
+// Stores bytes at a span's addresses, mapping pages that are absent: all or nothing.
+pub fn write(
+    head: &mut Head,
+    space: u32,
+    address: usize,
+    bytes: &[u8],
+    index: &[u64],
+    count: &mut [u32],
+    table: &mut [u32],
+    helper: &mut [u32],
+    stack: &mut [u32],
+    cache: &mut [u32],
+    link: &mut [u32],
+    ram: &mut [u8],
+) -> Done
+    ensures { λ r. ⌜
+        Did (machine.write space address (now (bytes .entry)))
+        (memory (now (head .entry)) (now (index .entry)) (now (count .entry)) (now (table .entry)) (now (helper .entry)) (now (stack .entry)) (now (cache .entry)) (now (link .entry)) (now (ram .entry)))
+        (doneSays r)
+        (memory (now (head .exit)) (now (index .entry)) (now (count .exit)) (now (table .exit)) (now (helper .exit)) (now (stack .exit)) (now (cache .exit)) (now (link .exit)) (now (ram .exit))) ⌝ }
+{
+    let out = writing::write(
+        *head,
+        space,
+        address,
+        bytes,
+        index,
+        count,
+        table,
+        helper,
+        stack,
+        cache,
+        link,
+        ram,
+    );
+    *head = out.head;
+    out.answer
+}
+
+// One record a region of a space, ascending, three numbers each: start, length, resident pages. Those after
+// the last stay.
+pub fn list(head: &Head, space: u32, records: &mut [u32], index: &[u64], count: &[u32]) -> Listed
+    ensures { λ r. ⌜ ((table helper stack cache link ram : List ℕ) →
+        ListDid space (memory (now (head .entry)) (now (index .entry)) (now (count .entry)) table helper stack cache link ram) r (now (records .entry)) (now (records .exit))) ⌝ }
+{
+    listing::list(*head, space, records, index, count)
+}
