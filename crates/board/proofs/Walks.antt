@@ -12,15 +12,15 @@ use base.Fml.{Fml, Lft, GName, Share, ftrue, ffalse, feq, flt, fsep, fand, for, 
 use prog.Wp.{Heap, Spot, spotOf, Env, Calls, Loops, WpFn, alloc, params, pass, release, Wp, atReturn}
 use ghost.Atoms.{Atoms, sem}
 use contract.Monad.{Fun}
-use contract.Lifetimes.{Lfts, Shares, AllOutlive, toks}
+use contract.Lifetimes.{Lfts, Shares, AllOutlive}
 use types.Run.{Opds, Walks, Finds, look, look-raw, init, store-raw, stop, hop, fld, from, load, addr, of-opd, and-then, no-more, assigns, land, returns}
 use types.Part.{Part, whole, sub, look-in, agg}
 use types.SemTy.{Body}
-use types.Kit.{Given, Sq, regoal, fjoin, Item, Goal, Post, lands, nth, put, keep, drop, use3, fsplit, fsplit3, Seq, Step, step, Soaks, prop, runs, frees, atRet, aim, ‵, raw, _⊛_, some, given, later, mean, ⋆, push, pop, ++⊢, ⊢++, assume, check, use2, _$_, _∵_, !, qed, by, move, split, join, pick, use1, frame, show, await, updating, now as at-once, done}
-use denote.RattleType.{RattleType, Denots, Valss, mirs, flat, owns}
+use types.Kit.{Given, regoal, fjoin, Item, Goal, Post, lands, nth, put, keep, drop, use3, fsplit, fsplit3, Seq, Step, step, Soaks, prop, runs, frees, atRet, aim, ‵, raw, _⊛_, some, given, later, mean, ⋆, push, pop, ++⊢, ⊢++, assume, check, use2, _$_, _∵_, !, qed, by, move, split, join, pick, use1, frame, show, await, updating, now as at-once, done}
+use denote.RattleType.{RattleType, Denots, mirs, flat}
 use denote.Laws.{Is, shows, Makes, Typed, Lawfuls, all-typed, Are, Ises, Spells, valss, Tellss}
 use denote.Signature.{Signature, typesAt}
-use denote.Ref.{RefT, ptr, name, now, ptr-vals, ShrRef, MutRef}
+use denote.Ref.{RefT, ptr, name, now}
 use denote.Memory.{partAt, cellAt, mem}
 use denote.Plain.{UInt, uint-vals, uint-tells, uint-lawful}
 use denote.Slice.{sliceVal, slice-vals, ShrSlice, MutSlice, shr-slice-tells, mut-slice-tells, shr-slice-lawful, mut-slice-lawful}
@@ -400,29 +400,3 @@ module _ {M : Type 1} (𝓤 : URA M) (H : Heap 𝓤) (A : Atoms 𝓤) where
       qed W (some (λ (ws : Unit {0} × Y). ‵ (fsep ftrue (L (ws .1))) ⊛ raw (Q ws)) ∷ ‵ (fres γ (T.the-row .coded .code h)) ∷ []) ∵ pick ! (λ ws. split ! $ fsplit ! $ drop ! $ move ! (1 ∷ []) $
       use1 W (raw (Q′ (h, ws .1))) (k (ws .1)) $ move ! (2 ∷ 1 ∷ []) $ fjoin ! $
       show ! (λ (ws : Head × Y). sep 𝓤 (sem 𝓤 H A (fsep (fres γ (T.the-row .coded .code (ws .0))) (L (ws .1)))) (Q′ ws)) (h, ws .1) $ done !)
-
--- ---- a function whose head is lent by `&`, and by `&mut`, up to the copy of the head: what is left runs from what the callee asks
-module _ {M : Type 1} (𝓤 : URA M) (H : Heap 𝓤) (A : Atoms 𝓤) (W : Given 𝓤 H A) (C : Calls 𝓤 H) (Λ : Loops 𝓤 H) (fn : Fn) (ks : List Kind) (κs : Lfts (suc (lives ks))) (qs : Shares (suc (lives ks))) (x : RefT Head) (a : Denots (typesOf 1 ks (κs .1))) (Kf : Val → SProp 𝓤) where
-  abbrev pub values : Valss (typesOf 1 ks (κs .1))
-  values = valss (typesOf 1 ks (κs .1)) (spellsOf 1 ks (κs .1)) a
-
-  -- what the callee asks
-  abbrev pub asked : SProp 𝓤
-  asked = sep 𝓤 (sep 𝓤 (toks 𝓤 A (lives ks) (κs .1) (qs .1)) (sem 𝓤 H A (fsep (T.the-row .own (now x) (headVal (now x) ∷ [])) (owns (typesOf 1 ks (κs .1)) a values)))) (emp 𝓤)
-
-  abbrev pub Entered : (Γ : Item 𝓤) (j : ℕ) → Code → Type 1
-  Entered i j rest = (bs : Blocks (fn .locals)) → Sq W (raw asked ∷ i ∷ put 𝓤 H A (twice j) (‵ (fat fullShare T′.mir (spotOf 𝓤 H (envOf (fn .locals) bs) j .1) zero (headVal (now x)))) (entry 𝓤 (fn .locals) bs (vptr (ptr x .0) (ptr x .1) ∷ flat (typesOf 1 ks (κs .1)) values)))
-      (runs C Λ (envOf (fn .locals) bs) rest (atRet (envOf (fn .locals) bs) Kf))
-
-  abbrev Placed : ℕ → Type 2
-  Placed j = (bs : Blocks (fn .locals)) → (nth 𝓤 H A 2 (entry 𝓤 (fn .locals) bs (vptr (ptr x .0) (ptr x .1) ∷ flat (typesOf 1 ks (κs .1)) values)) ≡ ‵ (fat fullShare (spotOf 𝓤 H (envOf (fn .locals) bs) 1 .0) (spotOf 𝓤 H (envOf (fn .locals) bs) 1 .1) zero (vptr (ptr x .0) (ptr x .1))))
-      × ((spotOf 𝓤 H (envOf (fn .locals) bs) j ≡ (T′.mir, spotOf 𝓤 H (envOf (fn .locals) bs) j .1, zero)) × (nth 𝓤 H A (twice j) (entry 𝓤 (fn .locals) bs (vptr (ptr x .0) (ptr x .1) ∷ flat (typesOf 1 ks (κs .1)) values)) ≡ ‵ (froom T′.mir (spotOf 𝓤 H (envOf (fn .locals) bs) j .1) zero)))
-
-  pub lent : (j : ℕ) (rest : Code) → fn .body ≡ seq (assign (place j []) (rvOpd (copy (place 1 (deref T′.mir ∷ []))))) rest → Placed j → ParamsTyped (fn .locals) (vptr (ptr x .0) (ptr x .1) ∷ flat (typesOf 1 ks (κs .1)) values)
-      → Entered (‵ (flft (κs .0) (qs .0))) j rest
-      → ent 𝓤 (sep 𝓤 (sep 𝓤 (toks 𝓤 A (suc (lives ks)) κs qs) (sem 𝓤 H A (owns (ShrRef (named 0) (κs .0) T.the-row ∷ typesOf 1 ks (κs .1)) (x, a) (ptr-vals x, values)))) (emp 𝓤)) (WpFn 𝓤 H C Λ fn (vptr (ptr x .0) (ptr x .1) ∷ flat (typesOf 1 ks (κs .1)) values) Kf)
-  lent j rest is placed typed k = via 𝓤 _ (fst∗ 𝓤 _ (emp 𝓤)) (
-      qed W ((‵ (flft (κs .0) (qs .0)) ⊛ raw (toks 𝓤 A (lives ks) (κs .1) (qs .1))) ∷ ‵ (owns (ShrRef (named 0) (κs .0) T.the-row ∷ typesOf 1 ks (κs .1)) (x, a) (ptr-vals x, values)) ∷ []) ∵
-      enters ! C Λ fn (vptr (ptr x .0) (ptr x .1) ∷ flat (typesOf 1 ks (κs .1)) values) Kf typed (λ bs.
-      regoal ! (λ (b : Code). runs C Λ (envOf (fn .locals) bs) b (atRet (envOf (fn .locals) bs) Kf)) is refl $
-      reads-head ! (κs .0) (qs .0) x (toks 𝓤 A (lives ks) (κs .1) (qs .1)) (owns (typesOf 1 ks (κs .1)) a values) (placed bs .0) (placed bs .1 .0) (placed bs .1 .1) $ k bs))
