@@ -1,10 +1,10 @@
 // Plays a script of calls from standard input, a line each, and answers every line at once: document 01,
 // "One session whole". RAM is zeros at first; the five tables that start doesn't prepare hold garbage.
-mod board;
+mod answering;
 mod input;
 
-use board::answer_last;
-use board::answer_lines;
+use answering::answer_last;
+use answering::answer_lines;
 use memory::Head;
 use memory::no_start;
 ghost use Prim.Native.Nat.{_<_};

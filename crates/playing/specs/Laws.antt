@@ -24,7 +24,7 @@ use Rattle.playing.specs.declared.Code.the-variants.{Call, Unreadable}
 use Rattle.playing.specs.Codes.{codeAt}
 use Rattle.playing.specs.Plays.{Desk, called, laid, Played, playOne, plays, Turns}
 use Rattle.playing.specs.Plays.Turns.{none as no-turn, skip, turn}
-use Rattle.playing.specs.Promise.{RoomIn, Rooms, byMachine, Begun, Plays}
+use Rattle.playing.specs.Promise.{RoomIn, Rooms, byMachine, StartsFirst, Plays}
 
 -- ---- codes after codes
 
@@ -122,7 +122,7 @@ record FromStart (codes : List ℕ) (n : ℕ) (z : Sizes) (k : Memory) (d : Desk
   events-are : es ≡ first ∷ later
   demand : Demand3 z k later k′ (machineAt z k later)
 
-from-start : {n : ℕ} {k k′ : Memory} {d d′ : Desk} {es : List Event} (codes : List ℕ) (z : Sizes) → Begun codes n k d z
+from-start : {n : ℕ} {k k′ : Memory} {d d′ : Desk} {es : List Event} (codes : List ℕ) (z : Sizes) → StartsFirst codes n k d z
     → Turns codes (length (d .bytes)) (length (d .records)) 0 n k d es k′ d′ → FromStart codes n z k d es k′ d′
 unfolding plays asked
 from-start codes z b no-turn = absurd (omega (arith, b .some))

@@ -39,7 +39,7 @@ module _ (codes : List ℕ) (n : ℕ) (k : Memory) (d : Desk) where
   byMachine m = plays codes wholeBytes wholeRecords (lengths k) 0 n (record { state = m; desk = d })
 
   -- the first code is a start of these sizes, and it passes its checks
-  pub record Begun (z : Sizes) : Type 0 where
+  pub record StartsFirst (z : Sizes) : Type 0 where
     pub some : 0 < n
     pub parts : Parts
     pub first : codeAt codes wholeBytes wholeRecords 0 ≡ Call (request-is.Start (z .spaces) (z .pages) (z .frames) (z .page)) parts
@@ -51,8 +51,8 @@ module _ (codes : List ℕ) (n : ℕ) (k : Memory) (d : Desk) where
     pub events : List Event
     pub turns : Turns codes wholeBytes wholeRecords 0 n k d events k′ d′
     -- "From an accepted start, .. every answer is the plain machine's, whatever the five unprepared tables held"
-    pub demand-2 : (z : Sizes) → Begun z → d′ ≡ byMachine (unstarted (k .ram)) .desk
+    pub demand-2 : (z : Sizes) → StartsFirst z → d′ ≡ byMachine (unstarted (k .ram)) .desk
     -- and where the memory stands for a machine already, started or not
     pub honest : (m : State) → Stands m k → Rooms codes wholeBytes wholeRecords 0 n k → (d′ ≡ byMachine m .desk) × Stands (byMachine m .state) k′
     -- "One claim over every sequence of calls": of the calls after the start
-    pub demand-3 : (z : Sizes) → Begun z → (e : Event) × (es : List Event) × (events ≡ e ∷ es) × Demand3 z k es k′ (machineAt z k es)
+    pub demand-3 : (z : Sizes) → StartsFirst z → (e : Event) × (es : List Event) × (events ≡ e ∷ es) × Demand3 z k es k′ (machineAt z k es)

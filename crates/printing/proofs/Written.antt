@@ -7,12 +7,12 @@ use native.Mathlib.Nat.{mod-eq-of-lt, pow-suc, pow-le-pow-right, lt-of-not-le}
 use native.Mathlib.Numerals.{add-one, unary-clauses}
 use native.Mathlib.Omega.{arith}
 use borrow.Author.Tests.{lt-ltb, le-ltb}
-use lib.ListN.{length, take, drop, set, getD, length-append, length-drop, length-set}
+use lib.ListN.{length, take, drop, set, getD, length-append, length-set}
 use lib.Seq.{take-suc, take-suc-set, take-at}
 use Rattle.io.specs.Digits.{glyph, digits, Fewest}
 use Rattle.promise.specs.Filled.{recordsIn}
 use Rattle.serving.specs.Requests.{numbersOf, replied}
-use Rattle.serving.specs.Laws.{records-length, records-numbers}
+use Rattle.serving.specs.Laws.{records-length, numbers-length, records-numbers}
 use Rattle.serving.specs.declared.Reply.the-variants as reply-is
 use Rattle.printing.specs.Text.{decimal, decimalWith, hexText, bytesText, numbersText, regionsWord, blank, text}
 use Rattle.printing.specs.Writing.{Wrote}
@@ -117,7 +117,7 @@ few-digits n k h f =
 records-are : (n : ℕ) (ws : List ℕ) → 3 * n ≤ length ws → numbersOf (recordsIn n ws) ≡ take (3 * n) ws
 records-are n ws h =
     let e = records-numbers n ws h in
-    let l : length (numbersOf (recordsIn n ws)) ≡ 3 * n = omega (arith, simp (length-append, length-drop) at (ap length e)) in
+    let l = numbers-length (recordsIn n ws) ∙ ap (λ (k : ℕ). 3 * k) (records-length n ws) in
     sym (take-at _ (drop (3 * n) ws) (3 * n) l) ∙ ap (take (3 * n)) e
 
 pub regions-text : (f : Bool) (n : ℕ) (bytes ws : List ℕ) → 3 * n ≤ length ws

@@ -4,12 +4,17 @@ use mathlib.Core.List.{List, [], _∷_, _++_}
 use Prim.Native.Nat.{ℕ, zero, suc, _+_, _*_, _≤_}
 use native.Mathlib.Omega.{arith}
 use lib.ListN.{length, drop}
+use Rattle.machine.specs.declared.Region.{Region}
 use Rattle.promise.specs.Filled.{recordsIn}
 use Rattle.serving.specs.Requests.{numbersOf}
 
 pub records-length : (n : ℕ) (ws : List ℕ) → length (recordsIn n ws) ≡ n
 records-length zero ws = refl
 records-length (suc n) ws = ap suc (records-length n (drop 3 ws))
+
+pub numbers-length : (rs : List Region) → length (numbersOf rs) ≡ 3 * length rs
+numbers-length [] = refl
+numbers-length (r ∷ rs) = omega (arith, numbers-length rs)
 
 pub records-numbers : (n : ℕ) (ws : List ℕ) → 3 * n ≤ length ws → numbersOf (recordsIn n ws) ++ drop (3 * n) ws ≡ ws
 records-numbers zero ws h = refl

@@ -91,7 +91,7 @@ pub record Unstarted (m : State) (k : Memory) : Type 0 where
 abbrev pub Stands : State → Memory → Type 0
 Stands m k = Holds m k ⊎ Unstarted m k
 
-pub record Served (m : State) (c : Call) (a : Answer) (k₁ : Memory) : Type 0 where
+pub record FollowsMachine (m : State) (c : Call) (a : Answer) (k₁ : Memory) : Type 0 where
   pub answer-is : a ≡ answer m c
   pub stands : Stands (after m c) k₁
 
@@ -101,7 +101,7 @@ no-sizes z e = rw e
 
 module _ (m : State) (k : Memory) (a : Answer) (k₁ : Memory) (u : Unstarted m k) where
   -- a refusal changes nothing
-  refused-alike : (c : Lent → Call) (j : ℕ) → asked (sizesOf (k .head)) (c (lengths k)) ≡ suc j → asked (m .sizes) (c (lengths k)) ≡ suc j → Did c k a k₁ → Served m (c (lengths k)) a k₁
+  refused-alike : (c : Lent → Call) (j : ℕ) → asked (sizesOf (k .head)) (c (lengths k)) ≡ suc j → asked (m .sizes) (c (lengths k)) ≡ suc j → Did c k a k₁ → FollowsMachine m (c (lengths k)) a k₁
   refused-alike c j e e′ d =
       let r : a ≡ refused (suc j) 0 = subst (λ (i : ℕ). Exactly i (c (lengths k)) a) e (d .asks) in
       let o = refused-step m (c (lengths k)) j e′ in
@@ -114,12 +114,12 @@ module _ (m : State) (k : Memory) (a : Answer) (k₁ : Memory) (u : Unstarted m 
   same-none = ap (λ (x : State). x .sizes .spaces) (u .state-is)
 
   -- before a start every other call is refused with 1
-  refused-first : (c : Lent → Call) → ((z : Sizes) → sizesOk z ≡ false → asked z (c (lengths k)) ≡ 1) → Did c k a k₁ → Served m (c (lengths k)) a k₁
+  refused-first : (c : Lent → Call) → ((z : Sizes) → sizesOk z ≡ false → asked z (c (lengths k)) ≡ 1) → Did c k a k₁ → FollowsMachine m (c (lengths k)) a k₁
   refused-first c one d = refused-alike c 0 (one _ (no-sizes _ (u .none))) (one _ (no-sizes _ same-none)) d
 
   -- a start begins with the RAM as it stands
   first-start : (z : Sizes) → Room (start z (lengths k)) k → asked (sizesOf (k .head)) (start z (lengths k)) ≡ 0 → asked (m .sizes) (start z (lengths k)) ≡ 0 → Did (start z) k a k₁
-      → Served m (start z (lengths k)) a k₁
+      → FollowsMachine m (start z (lengths k)) a k₁
   unfolding accepted
   first-start z room e e′ d =
       let o = passed-step m (start z (lengths k)) e′ in
@@ -129,15 +129,15 @@ module _ (m : State) (k : Memory) (a : Answer) (k₁ : Memory) (u : Unstarted m 
         stands = subst (λ (x : Out). Stands (x .after) k₁) (sym o) (inl (subst (λ (ram : List ℕ). Holds (begun z ram) k₁) (sym (ap (λ (x : State). x .ram) (u .state-is))) (b .1 .holds room)));
       }
 
-  start-served : (z : Sizes) → (asked (sizesOf (k .head)) (start z (lengths k)) ≡ 0 → Room (start z (lengths k)) k) → Did (start z) k a k₁ → Served m (start z (lengths k)) a k₁
+  start-served : (z : Sizes) → (asked (sizesOf (k .head)) (start z (lengths k)) ≡ 0 → Room (start z (lengths k)) k) → Did (start z) k a k₁ → FollowsMachine m (start z (lengths k)) a k₁
   unfolding asked
   start-served z room d = go (asked (sizesOf (k .head)) (start z (lengths k))) refl
     where
-      go : (j : ℕ) → asked (sizesOf (k .head)) (start z (lengths k)) ≡ j → Served m (start z (lengths k)) a k₁
+      go : (j : ℕ) → asked (sizesOf (k .head)) (start z (lengths k)) ≡ j → FollowsMachine m (start z (lengths k)) a k₁
       go zero e = first-start z (room e) e e d
       go (suc j) e = refused-alike (start z) j e e d
 
-  unstarted-served : (q : Request) (bytes records : List ℕ) → RoomFor q k → Did (requested q bytes records) k a k₁ → Served m (requested q bytes records (lengths k)) a k₁
+  unstarted-served : (q : Request) (bytes records : List ℕ) → RoomFor q k → Did (requested q bytes records) k a k₁ → FollowsMachine m (requested q bytes records (lengths k)) a k₁
   unfolding asked
   unstarted-served (Start s n f p) bytes records room d = start-served (record { spaces = s; pages = n; frames = f; page = p }) (room bytes records) d
   unstarted-served (Mark i b) bytes records room d = refused-first _ (λ z e. rw e) d
@@ -152,7 +152,7 @@ module _ (m : State) (k : Memory) (a : Answer) (k₁ : Memory) (u : Unstarted m 
   unstarted-served (Listing i) bytes records room d = refused-first _ (λ z e. rw e) d
 
 pub serve-follows : (m : State) (k : Memory) (q : Request) (bytes records : List ℕ) (a : Answer) (k₁ : Memory) → Stands m k → RoomFor q k
-    → Did (requested q bytes records) k a k₁ → Served m (requested q bytes records (lengths k)) a k₁
+    → Did (requested q bytes records) k a k₁ → FollowsMachine m (requested q bytes records (lengths k)) a k₁
 serve-follows m k q bytes records a k₁ (inl H) room d =
     let f = step-follows m k _ k₁ H (whole-step q bytes records k a k₁ room d) in
     record { answer-is = f .answer-is; stands = inl (f .holds) }

@@ -11,13 +11,12 @@ use lib.ListN.{length, take, drop, length-drop, length-append}
 use lib.Seq.{length-take-le, take-at}
 use Rattle.machine.specs.Machine.{Sizes, places, sizesOk, State, Lent, Call as MachineCall, start, read, write, list, asked, Answer, answer, after}
 use Rattle.machine.specs.Laws.Sizes.{both, passed, fit}
-use Rattle.machine.specs.declared.Region.{Region}
 use Rattle.memory.specs.Memory.{Memory, sizesOf, lengths}
 use Rattle.promise.specs.Holds.{Roomy}
 use Rattle.promise.specs.Filled.{recordsIn}
 use Rattle.demands.specs.Laws.Lent.{asked-long}
 use Rattle.serving.specs.Requests.{requested, replied, numbersOf, recordsInto}
-use Rattle.serving.specs.Laws.{records-length}
+use Rattle.serving.specs.Laws.{records-length, numbers-length}
 use Rattle.serving.specs.Steps.{RoomFor, Stands, serve-follows}
 use Rattle.serving.specs.declared.Request.{Request}
 use Rattle.serving.specs.declared.Request.the-variants.{Start, Mark, Drop, Touch, Look, Release, Free, Translate, Read, Write, List as Listing}
@@ -30,7 +29,7 @@ use Rattle.parsing.specs.declared.Line.{Line}
 use Rattle.parsing.specs.declared.Line.the-variants.{Call, Bad}
 use Rattle.printing.specs.Text.{badLine, finds, text}
 use Rattle.printing.specs.Writing.{Wrote, shown, Roomy as Sayable, Says}
-use Rattle.session.specs.Session.{beyond, lineCall, Answered, answeredCall, answeredAs, answered}
+use Rattle.session.specs.Session.{beyond, lineCall, LineAnswer, answeredCall, answeredAs, answered}
 use Rattle.session.specs.Room.{Board, Answers, AnswersLine}
 use Rattle.session.specs.Filling.{Fills, CallAnswered}
 
@@ -113,10 +112,6 @@ module _ (line : List ℕ) (n : ℕ) (buffer buffer′ records : List ℕ) (l : 
 
 -- ---- the answer
 
-numbers-length : (rs : List Region) → length (numbersOf rs) ≡ 3 * length rs
-numbers-length [] = refl
-numbers-length (r ∷ rs) = omega (arith, numbers-length rs)
-
 -- the records that a reply shows are there
 shown-fits : (r : Reply) (bytes records records′ : List ℕ) → records′ ≡ recordsInto (replied r bytes records′) records → shown r ≤ length records′
 shown-fits reply-is.Done bytes records records′ e = omega arith
@@ -134,7 +129,7 @@ shown-fits (reply-is.Refused k w) bytes records records′ e = omega arith
 
 module _ (line : List ℕ) (k : Memory) (at : ℕ) (out buffer records : List ℕ) (end : ℕ) (k′ : Memory) (out′ : List ℕ) where
   -- the machine's answer is known
-  answers-as : (m : State) (x : Answered) → answered line (lengths k) m ≡ x → Wrote at out (x .answer-text) end out′ → Stands (x .after) k′ → Answers line m k at out end k′ out′
+  answers-as : (m : State) (x : LineAnswer) → answered line (lengths k) m ≡ x → Wrote at out (x .answer-text) end out′ → Stands (x .after) k′ → Answers line m k at out end k′ out′
   answers-as m x e wrote stands = record { wrote = rw e wrote; stands = rw e stands }
 
   called : (m : State) (q : Request) (n : ℕ) (over : Bool) → parsed line ≡ Call q n → beyond q ≡ over → answered line (lengths k) m ≡ answeredCall q n line (lengths k) m over

@@ -19,7 +19,7 @@ pub record Board (k : Memory) : Type 0 where
   pub ram : 32768 ≤ length (k .ram)
 
 -- and room for the longest answer, 256 bytes, and a record for each of 1,024 regions
-pub record Desk (k : Memory) (at : ℕ) (out buffer records : List ℕ) : Type 0 where
+pub record Enough (k : Memory) (at : ℕ) (out buffer records : List ℕ) : Type 0 where
   pub board : Board k
   pub room : at + 65536 ≤ length out
   pub bytes : length buffer ≡ 256
@@ -31,4 +31,4 @@ pub record Answers (line : List ℕ) (m : State) (k : Memory) (at : ℕ) (out : 
 
 -- on memory that stands for a machine, started or not, the machine's answer is written, and the memory stands for the machine after it
 abbrev pub AnswersLine : List ℕ → Memory → ℕ → List ℕ → List ℕ → List ℕ → ℕ → Memory → List ℕ → Type 0
-AnswersLine line k at out buffer records end k′ out′ = (m : State) → Stands m k → Desk k at out buffer records → Answers line m k at out end k′ out′
+AnswersLine line k at out buffer records end k′ out′ = (m : State) → Stands m k → Enough k at out buffer records → Answers line m k at out end k′ out′

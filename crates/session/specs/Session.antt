@@ -42,21 +42,21 @@ lineCall (Write i x) count line = machine.write i x (bytesIn (hexOf line count))
 lineCall (Listing i) count line = machine.list i 1024
 
 -- the text that answers a line, and the machine after it
-pub record Answered : Type 0 where
+pub record LineAnswer : Type 0 where
   pub answer-text : List ℕ
   pub after : machine.State
 
 -- "A start beyond the limits gives `no 1`"
-abbrev pub answeredCall : Request → ℕ → List ℕ → machine.Lent → machine.State → Bool → Answered
+abbrev pub answeredCall : Request → ℕ → List ℕ → machine.Lent → machine.State → Bool → LineAnswer
 answeredCall q count line l m true = record { answer-text = text false (machine.refused 1 0); after = m }
 answeredCall q count line l m false =
     let c = lineCall q count line l in
     record { answer-text = text (finds q) (machine.answer m c); after = machine.after m c }
 
 -- "A line it can't read gives `bad line`"
-abbrev pub answeredAs : Line → List ℕ → machine.Lent → machine.State → Answered
+abbrev pub answeredAs : Line → List ℕ → machine.Lent → machine.State → LineAnswer
 answeredAs Bad line l m = record { answer-text = badLine; after = m }
 answeredAs (Call q count) line l m = answeredCall q count line l m (beyond q)
 
-abbrev pub answered : List ℕ → machine.Lent → machine.State → Answered
+abbrev pub answered : List ℕ → machine.Lent → machine.State → LineAnswer
 answered line l m = answeredAs (parsed line) line l m

@@ -4,8 +4,8 @@ use Prim.Native.Nat.{_-_}
 use native.Mathlib.Omega.{arith}
 use borrow.Author.Needs.{needs}
 use Rattle.play.proofs.Buffers.{Kept}
-use Rattle.play.proofs.board.answer_lines.Statement.{statement}
-use Rattle.play.proofs.board.answer_lines.Tie as tie
+use Rattle.play.proofs.answering.answer_lines.Statement.{statement}
+use Rattle.play.proofs.answering.answer_lines.Tie as tie
 
 abbrev Inv-loop : tie.InvT-loop
 Inv-loop input n is-long out₀ buffer₀ records₀ index₀ count₀ table₀ helper₀ stack₀ cache₀ link₀ ram₀ next₀ is-long₀ from₀ at₀ out buffer records index count table helper stack cache link ram next is-long' from at =

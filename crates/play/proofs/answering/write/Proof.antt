@@ -2,8 +2,8 @@
 use mathlib.Core.Path.{sym}
 use lib.Seq.{length-take-le}
 use borrow.Author.Needs.{needs}
-use Rattle.play.proofs.board.write.Statement.{statement}
-use Rattle.play.proofs.board.write.Tie as tie
+use Rattle.play.proofs.answering.write.Statement.{statement}
+use Rattle.play.proofs.answering.write.Tie as tie
 
 slice-aggregate-write-all : tie.Need-slice-aggregate-write-all
 slice-aggregate-write-all c = sym (length-take-le _ _ (c .before .if1 .taken))
