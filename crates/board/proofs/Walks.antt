@@ -275,12 +275,12 @@ abbrev pub headVal : Head → Val
 headVal = LL.val T.the-type T′.the-laws
 
 module _ {M : Type 1} {𝓤 : URA M} {H : Heap 𝓤} {A : Atoms 𝓤} {K : Type 0} {W : Given 𝓤 H A} where
-  held : K → {i : Item 𝓤} {q : Share} {τ : Ty} {b o : ℕ} {v : Val} → i ≡ ‵ (fat q τ b o v) → Part K W i q τ b o v (λ u. ‵ (fat q τ b o u))
+  pub held : K → {i : Item 𝓤} {q : Share} {τ : Ty} {b o : ℕ} {v : Val} → i ≡ ‵ (fat q τ b o v) → Part K W i q τ b o v (λ u. ‵ (fat q τ b o u))
   held t {i} {q} {τ} {b} {o} {v} e = subst (λ (m : Item 𝓤). Part K W m q τ b o v (λ u. ‵ (fat q τ b o u))) (sym e) (whole t)
 
 module _ {M : Type 1} {𝓤 : URA M} {H : Heap 𝓤} {A : Atoms 𝓤} {K : Type 0} {W : Given 𝓤 H A} {E : Env 𝓤 H} where
   -- a place in a local whose type and block are known
-  found : K → {Γ : List (Item 𝓤)} {i : ℕ} {sp sp′ : Spot 𝓤 H} {st : List PStep} → spotOf 𝓤 H E i ≡ sp → Walks K W Γ E sp st sp′ → Finds K W Γ E (place i st) sp′
+  pub found : K → {Γ : List (Item 𝓤)} {i : ℕ} {sp sp′ : Spot 𝓤 H} {st : List PStep} → spotOf 𝓤 H E i ≡ sp → Walks K W Γ E sp st sp′ → Finds K W Γ E (place i st) sp′
   found t {Γ} {i} {sp} {sp′} {st} e w = from t (subst (λ (s : Spot 𝓤 H). Walks K W Γ E s st sp′) (sym e) w)
 
   -- a local as an operand

@@ -67,7 +67,7 @@ pub fn place(h: Head, space: u32, page: u32) -> usize
 }
 
 // The words of the index of so many places.
-fn index_words(places: usize) -> usize
+pub fn index_words(places: usize) -> usize
     requires { ⌜ (1 ≤ places) × (places ≤ 262144) ⌝ }
     ensures { λ r. ⌜ r ≡ size places ⌝ }
 {
@@ -78,7 +78,7 @@ fn index_words(places: usize) -> usize
 }
 
 // The bytes of all frames.
-fn ram_bytes(h: Head) -> usize
+pub fn ram_bytes(h: Head) -> usize
     requires { ⌜ sizesOk (sizesOf h) ≡ true ⌝ }
     ensures { λ r. ⌜ r ≡ ramBytes (sizesOf h) ⌝ }
 {

@@ -1,0 +1,65 @@
+// How much memory a start of some sizes asks for, so that a caller can lend it.
+use checks::all_places;
+use checks::index_words;
+use checks::ram_bytes;
+use checks::sizes_ok;
+use checks::wide;
+use machine::MadeSize;
+use machine::PageSize;
+use memory::Head;
+ghost use mathlib.Core.List.{[], _∷_};
+ghost use mathlib.Core.Path.{_≡_};
+ghost use Rattle.marking.specs.Steps.{sizes};
+ghost use Rattle.sizing.specs.Needed.{numbersOf, neededFor};
+
+// Words of the index, entries of the five tables with one a place, of the frame link, bytes of RAM;
+// or refusal 1, for sizes outside their limits, and 0.
+#[repr(C)]
+pub struct Needs {
+    pub refusal: u32,
+    pub index: usize,
+    pub places: usize,
+    pub link: usize,
+    pub ram: usize,
+}
+
+fn no_sizes() -> Needs
+    ensures { λ r. ⌜ numbersOf r ≡ 1 ∷ 0 ∷ 0 ∷ 0 ∷ 0 ∷ [] ⌝ }
+{
+    Needs {
+        refusal: 1,
+        index: 0,
+        places: 0,
+        link: 0,
+        ram: 0,
+    }
+}
+
+// What a start of these sizes and the calls after it must be lent.
+pub fn needed(spaces: u32, pages: u32, frames: u32, page: u32) -> Needs
+    ensures { λ r. ⌜ numbersOf r ≡ neededFor (sizes spaces pages frames page) ⌝ }
+{
+    let MadeSize::Made(size) = PageSize::of(page) else {
+        return no_sizes();
+    };
+    let h = Head {
+        spaces,
+        pages,
+        frames,
+        page: size,
+        first: 0,
+        many: 0,
+        fresh: 0,
+    };
+    if !sizes_ok(h) {
+        return no_sizes();
+    }
+    let places = all_places(h);
+    Needs {
+        refusal: 0,
+        index: index_words(places),
+        places,
+        link: wide(frames),
+        ram: ram_bytes(h),
+    }
+}
