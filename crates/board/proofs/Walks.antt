@@ -306,8 +306,8 @@ module _ {M : Type 1} {𝓤 : URA M} {H : Heap 𝓤} {A : Atoms 𝓤} {K : Type 
         owned t T.the-row (Is T.the-row) (LL.makes T.the-type T′.the-plain 𝓤 H A) (now x) _ is $ move t (5 ∷ 0 ∷ 4 ∷ []) $
         use3 W (raw (sep 𝓤 (sep 𝓤 P (sem 𝓤 H A (fsep (T.the-row .own (now x) (headVal (now x) ∷ [])) F))) (emp 𝓤))) (asks 𝓤 _) $ move t (2 ∷ 3 ∷ []) $ drop t $ drop t $ k)))
 
-    -- `_j = &mut *_i.0; _k = (_j, _i.1)`: a slice is passed on
-    pub relend : K → {i j k l m p b o n : ℕ} {ℓ ℓ′ ℓ″ : Lifetime} {τ : Ty} {ν ν′ : Sym} {a c : Item 𝓤} {rest : Code}
+    -- `_j = &mut *_i.0; _k = (_j, _i.1)`: a slice is passed on. Behind a reference a struct's type is its name, in a place it is written out
+    pub relend : K → {i j k l m p b o n : ℕ} {ℓ ℓ′ ℓ″ : Lifetime} {τ σ : Ty} {ν ν′ : Sym} {a c : Item 𝓤} {rest : Code}
         → spotOf 𝓤 H E i ≡ (tyStruct ν (tcons (tyRef ℓ mut τ) (tcons (tyInt w64) tnil)), l, zero) → spotOf 𝓤 H E j ≡ (tyRef ℓ′ mut τ, m, zero) → spotOf 𝓤 H E k ≡ (tyStruct ν′ (tcons (tyRef ℓ″ mut τ) (tcons (tyInt w64) tnil)), p, zero)
         → nth 𝓤 H A (twice i) Γ ≡ ‵ (fat fullShare (tyStruct ν (tcons (tyRef ℓ mut τ) (tcons (tyInt w64) tnil))) l zero (sliceVal (b, o) n)) → nth 𝓤 H A (twice j) Γ ≡ ‵ (froom (tyRef ℓ′ mut τ) m zero)
         → nth 𝓤 H A (twice i) (put 𝓤 H A (twice j) (‵ (fat fullShare (tyRef ℓ′ mut τ) m zero (vptr b o))) Γ) ≡ ‵ (fat fullShare (tyStruct ν (tcons (tyRef ℓ mut τ) (tcons (tyInt w64) tnil))) l zero (sliceVal (b, o) n))
@@ -315,7 +315,7 @@ module _ {M : Type 1} {𝓤 : URA M} {H : Heap 𝓤} {A : Atoms 𝓤} {K : Type 
         → nth 𝓤 H A (twice k) (put 𝓤 H A (twice j) (‵ (fat fullShare (tyRef ℓ′ mut τ) m zero (vptr b o))) Γ) ≡ ‵ (froom (tyStruct ν′ (tcons (tyRef ℓ″ mut τ) (tcons (tyInt w64) tnil))) p zero)
         → n < 2 ^ 64
         → Step K W (a ∷ c ∷ put 𝓤 H A (twice k) (‵ (fat fullShare (tyStruct ν′ (tcons (tyRef ℓ″ mut τ) (tcons (tyInt w64) tnil))) p zero (sliceVal (b, o) n))) (put 𝓤 H A (twice j) (‵ (fat fullShare (tyRef ℓ′ mut τ) m zero (vptr b o))) Γ)) (runs C Λ E rest q)
-        (a ∷ c ∷ Γ) (runs C Λ E (seq (assign (place j []) (addrOf (place i (field 0 ∷ deref τ ∷ [])))) (seq (assign (place k []) (aggregate (copy (place j []) ∷ copy (place i (field 1 ∷ [])) ∷ []))) rest)) q)
+        (a ∷ c ∷ Γ) (runs C Λ E (seq (assign (place j []) (addrOf (place i (field 0 ∷ deref σ ∷ [])))) (seq (assign (place k []) (aggregate (copy (place j []) ∷ copy (place i (field 1 ∷ [])) ∷ []))) rest)) q)
     relend t {i} {j} {k} at-i at-j at-k ei ej ei′ ej′ ek fits = step (λ s.
         assigns t (addr t (found t at-i (fld t refl (hop t (look-in t (suc (suc (twice i))) (sub t 0 refl (held t ei))) (stop t))))) (found t at-j (stop t)) (init t (suc (suc (twice j))) ej (tt, tt)) $
         assigns t (agg t (and-then t (load t (found t at-j (stop t)) (look t (suc (suc (twice j))) ej′)) (and-then t (load t (found t at-i (fld t refl (stop t))) (look-in t (suc (suc (twice i))) (sub t 1 refl (held t ei′)))) (no-more t))))

@@ -1,9 +1,12 @@
 // The board's entrance: the pager's calls with the head lent and changed in place.
+use listing::last_region;
+use listing::survey;
 use machine::Copied;
 use machine::Done;
 use machine::Free;
 use machine::Listed;
 use machine::Looked;
+use machine::Region;
 use machine::Released;
 use machine::Touched;
 use machine::Translated;
@@ -14,7 +17,7 @@ ghost use Rattle.machine.specs.Machine as machine;
 ghost use Rattle.machine.specs.Answers.{doneSays, freeSays, touchedSays, lookedSays, releasedSays, translatedSays};
 ghost use Rattle.memory.specs.Memory.{memory};
 ghost use Rattle.promise.specs.Did.{Did};
-ghost use Rattle.promise.specs.Filled.{ReadDid, ListDid};
+ghost use Rattle.promise.specs.Filled.{ReadDid, RecordsDid};
 ghost use Rattle.marking.specs.Steps.{sizes};
 
 // Sets the sizes: no starts, every frame in the pool. Five tables and the RAM may hold anything.
@@ -260,11 +263,26 @@ pub fn write(
     out.answer
 }
 
-// One record a region of a space, ascending, three numbers each: start, length, resident pages. Those after
-// the last stay.
-pub fn list(head: &Head, space: u32, records: &mut [u32], index: &[u64], count: &[u32]) -> Listed
+// One record a region of a space, ascending. Those after the last stay. All that is decided is decided in crate
+// listing; the borrow checker doesn't cover a slice of structs, so the loop over them is walked by hand.
+fn list_into(head: Head, space: u32, records: &mut [Region], index: &[u64], count: &[u32]) -> Listed
     ensures { λ r. ⌜ ((table helper stack cache link ram : List ℕ) →
-        ListDid space (memory (now (head .entry)) (now (index .entry)) (now (count .entry)) table helper stack cache link ram) r (now (records .entry)) (now (records .exit))) ⌝ }
+        RecordsDid space (memory head (now (index .entry)) (now (count .entry)) table helper stack cache link ram) r (now (records .entry)) (now (records .exit))) ⌝ }
 {
-    listing::list(*head, space, records, index, count)
+    let s = survey(head, space, records.len(), index, count);
+    let mut rest = s.regions;
+    while 0 < rest.left {
+        let told = last_region(index, count, rest);
+        rest = told.rest;
+        records[rest.left] = told.region;
+    }
+    s.answer
+}
+
+// One record a region of a space, ascending. Those after the last stay.
+pub fn list(head: &Head, space: u32, records: &mut [Region], index: &[u64], count: &[u32]) -> Listed
+    ensures { λ r. ⌜ ((table helper stack cache link ram : List ℕ) →
+        RecordsDid space (memory (now (head .entry)) (now (index .entry)) (now (count .entry)) table helper stack cache link ram) r (now (records .entry)) (now (records .exit))) ⌝ }
+{
+    list_into(*head, space, records, index, count)
 }

@@ -1,12 +1,14 @@
 // The entrance for C and Rust: the board's calls, exported, each answer as numbers. bindings/c/corwystal.h declares them.
 use coding::Answer;
+use machine::Region;
 use memory::Head;
 use sizing::Needs;
 ghost use mathlib.Core.Path.{_≡_};
 ghost use mathlib.Core.List.{List};
 ghost use Prim.Native.Nat.{ℕ};
+ghost use lib.ListN.{take};
 ghost use Rattle.machine.specs.Machine as machine;
-ghost use Rattle.machine.specs.Answers.{doneSays, freeSays, touchedSays, lookedSays, releasedSays, translatedSays, copiedSays};
+ghost use Rattle.machine.specs.Answers.{doneSays, freeSays, touchedSays, lookedSays, releasedSays, translatedSays, copiedSays, listedSays};
 ghost use Rattle.machine.specs.declared.Done.{Done};
 ghost use Rattle.machine.specs.declared.Touched.{Touched};
 ghost use Rattle.machine.specs.declared.Looked.{Looked};
@@ -14,9 +16,10 @@ ghost use Rattle.machine.specs.declared.Released.{Released};
 ghost use Rattle.machine.specs.declared.Free.{Free};
 ghost use Rattle.machine.specs.declared.Translated.{Translated};
 ghost use Rattle.machine.specs.declared.Copied.{Copied};
+ghost use Rattle.machine.specs.declared.Listed.{Listed};
 ghost use Rattle.memory.specs.Memory.{memory};
 ghost use Rattle.promise.specs.Did.{Did};
-ghost use Rattle.promise.specs.Filled.{ReadDid};
+ghost use Rattle.promise.specs.Filled.{ReadDid, RecordsDid, recordsFilled};
 ghost use Rattle.marking.specs.Steps.{sizes};
 ghost use Rattle.sizing.specs.Needed.{numbersOf, neededFor};
 ghost use Rattle.corwystal.specs.Told.{Told};
@@ -287,4 +290,22 @@ pub extern "C" fn corwystal_write(
         link,
         ram,
     ))
+}
+
+// One record a region of a space, ascending. Records after the last stay.
+#[no_mangle]
+pub extern "C" fn corwystal_list(
+    head: &Head,
+    space: u32,
+    records: &mut [Region],
+    index: &[u64],
+    count: &[u32],
+) -> Answer
+    ensures { λ r. ⌜ Told Listed (λ a. listedSays a (take (recordsFilled a) (now (records .exit)))) (λ a.
+        (table helper stack cache link ram : List ℕ) →
+        RecordsDid space
+        (memory (now (head .entry)) (now (index .entry)) (now (count .entry)) table helper stack cache link ram)
+        a (now (records .entry)) (now (records .exit))) r ⌝ }
+{
+    coding::of_listed(board::list(head, space, records, index, count))
 }

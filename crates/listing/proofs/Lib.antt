@@ -1,4 +1,5 @@
 pub mod Searching
 pub mod Counting
+pub mod Telling
 pub mod Filling
 pub mod Called

@@ -5,10 +5,11 @@ use denote.Enum.Laws as EL
 use Rattle.memory.proofs.Head as T
 use Rattle.machine.proofs.Listed as R
 use Rattle.machine.proofs.Listed.Laws as R′
-use Rattle.listing.proofs.list as g
-use Rattle.listing.proofs.list.Symbol as g-def
-use Rattle.listing.proofs.list.Symbol.{name as #g}
-use Rattle.listing.proofs.list.Met as g-thm
+use Rattle.machine.proofs.Region as E
+use Rattle.board.proofs.list_into as g
+use Rattle.board.proofs.list_into.Symbol as g-def
+use Rattle.board.proofs.list_into.Symbol.{name as #g}
+use Rattle.board.proofs.list_into.Met as g-thm
 use Rattle.board.proofs.Walks.{Kind, word, shared, unique, typesOf, spellsOf, tellsOf, typedOf, meets, headVal, enters, reads-head, relend, arg, gives}
 use Rattle.board.proofs.list.Key.{name as #f}
 use Rattle.board.proofs.list as f
@@ -19,7 +20,7 @@ abbrev Callee : {M : Type 1} (𝓤 : URA M) (H : Heap 𝓤) (A : Atoms 𝓤) (me
 Callee 𝓤 H A mem run = tripleOf 𝓤 H A g.signature (g.spec 𝓤 H A mem run)
 
 abbrev kinds : List Kind
-kinds = word w32 ∷ unique u32 ∷ shared u64 ∷ shared u32 ∷ []
+kinds = word w32 ∷ unique E.the-row ∷ shared u64 ∷ shared u32 ∷ []
 
 module _ {M : Type 1} (𝓤 : URA M) (H : Heap 𝓤) (A : Atoms 𝓤) (W : Given 𝓤 H A) (mem : Memory → SProp 𝓤) (run : Routine → Fun 𝓤) (𝓣 : Tables 𝓤 H) (known : Triple 𝓤 (𝓣 .C #g) (Callee 𝓤 H A mem run)) where
   f-meets : Meets 𝓤 H A f.signature (WpFn 𝓤 H (𝓣 .C) (𝓣 .Λ) code.function) (f.spec 𝓤 H A mem run)
@@ -41,4 +42,4 @@ list-spec 𝓤 H 𝓜 𝓖 𝓡 =
     entered 𝓤 H (tripleOf 𝓤 H (𝓖 .A) f.signature (f.spec 𝓤 H (𝓖 .A) (𝓜 .mem) (𝓡 .run)))
     (tables 𝓤 H 𝓜 𝓡 code.env .C) (tables 𝓤 H 𝓜 𝓡 code.env .Λ) #f code.function (code.unfolded 𝓤 H 𝓜 𝓡)
     (f-meets 𝓤 H (𝓖 .A) (givenOf 𝓤 H 𝓜 𝓖) (𝓜 .mem) (𝓡 .run) (tablesOf 𝓤 H 𝓜 (tables 𝓤 H 𝓜 𝓡 code.env))
-    (cited 𝓤 H (Callee 𝓤 H (𝓖 .A) (𝓜 .mem) (𝓡 .run)) 𝓜 𝓡 code.env #g g-def.routine code.calls-listing·list (g-thm.met 𝓤 H 𝓜 𝓖 𝓡)))
+    (cited 𝓤 H (Callee 𝓤 H (𝓖 .A) (𝓜 .mem) (𝓡 .run)) 𝓜 𝓡 code.env #g g-def.routine code.calls-board·list-into (g-thm.met 𝓤 H 𝓜 𝓖 𝓡)))

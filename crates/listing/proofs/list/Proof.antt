@@ -1,81 +1,20 @@
--- The check, the count, then the records.
-use native.Mathlib.Omega.{arith}
-use Rattle.listing.proofs.Called.{refused-early, sizes-pass, first-pass, space-inside, fillable, short, filled}
+-- The survey, then the records.
+use Rattle.listing.proofs.Called.{filled}
 use borrow.Author.Needs.{needs}
 use Rattle.listing.proofs.list.Statement.{statement}
 use Rattle.listing.proofs.list.Tie as tie
 
-check-requires : tie.Need-check-requires
-check-requires c κs = search needs
-
-returns : tie.Need-returns
-returns c = refused-early _ _ _ _ _ _ (c .before .check .ensures) (c .if1 .taken)
-
-all-places-requires : tie.Need-all-places-requires
-all-places-requires c κs = sizes-pass _ _ _ _ _ (c .before .check .ensures) (c .if1 .left)
-
-place-requires : tie.Need-place-requires
-place-requires c κs = first-pass _ _ _ _ _ (c .before .before .check .ensures) (c .before .if1 .left)
-
-wide-requires : tie.Need-wide-requires
-wide-requires c κs = search needs
-
-add-end : tie.Need-add-end
-add-end c =
-    let inside = space-inside _ _ _ _ _ (c .before .before .before .before .check .ensures) (c .before .before .before .if1 .left)
-    _ _ _ (c .before .before .all-places .ensures) (c .before .place .ensures) (c .wide .ensures) in
-    omega arith
-
-count-regions-requires : tie.Need-count-regions-requires
-count-regions-requires c κs =
-    space-inside _ _ _ _ _ (c .before .before .before .before .check .ensures) (c .before .before .before .if1 .left)
-    _ _ _ (c .before .before .all-places .ensures) (c .before .place .ensures) (c .wide .ensures)
-
-wide-requires-2 : tie.Need-wide-requires-2
-wide-requires-2 c κs = search needs
-
-returns-2 : tie.Need-returns-2
-returns-2 c =
-    let n = c .before in
-    let s = n .before .before in
-    λ table helper stack cache link ram.
-    short _ _ _ _ _ _ (s .before .before .before .before .check .ensures) (s .before .before .before .if1 .left)
-    _ _ _ (s .before .before .all-places .ensures) (s .before .place .ensures) (s .wide .ensures)
-    _ _ (n .before .count-regions .ensures) (n .wide2 .ensures) table helper stack cache link ram (c .if2 .taken)
+survey-requires : tie.Need-survey-requires
+survey-requires c κs = search needs
 
 fill-requires : tie.Need-fill-requires
-fill-requires c κs =
-    let n = c .before .before in
-    let s = n .before .before in
-    fillable _ _ _ _ _ _ (s .before .before .before .before .check .ensures) (s .before .before .before .if1 .left)
-    _ _ _ (s .before .before .all-places .ensures) (s .before .place .ensures) (s .wide .ensures)
-    _ _ (n .before .count-regions .ensures) (n .wide2 .ensures) (c .before .if2 .left)
+fill-requires c κs = search needs
 
 same-length : tie.Need-same-length
 same-length c = search needs
 
-returns-3 : tie.Need-returns-3
-returns-3 c =
-    let n = c .before .before .before .before .before in
-    let s = n .before .before in
-    λ table helper stack cache link ram.
-    filled _ _ _ _ _ _ (s .before .before .before .before .check .ensures) (s .before .before .before .if1 .left)
-    _ _ _ (s .before .before .all-places .ensures) (s .before .place .ensures) (s .wide .ensures)
-    _ _ (n .before .count-regions .ensures) (n .wide2 .ensures) table helper stack cache link ram _ (c .before .before .before .before .if2 .left) (c .before .before .fill .ensures)
+returns : tie.Need-returns
+returns c = filled _ (c .before .before .before .before .before .survey .ensures) (c .before .before .fill .ensures)
 
 pub list-spec : {M : Type 1} → statement M
-list-spec =
-    tie.close
-    (tie.spec
-    check-requires
-    returns
-    all-places-requires
-    place-requires
-    wide-requires
-    add-end
-    count-regions-requires
-    wide-requires-2
-    returns-2
-    fill-requires
-    same-length
-    returns-3)
+list-spec = tie.close (tie.spec survey-requires fill-requires same-length returns)
