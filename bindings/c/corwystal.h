@@ -1,0 +1,175 @@
+/*
+ * Corwystal: the page manager of the collector boards, for C.
+ *
+ * Link target/staticlib/libcorwystal.a. It keeps no state of its own, allocates nothing, and needs of the C
+ * library memcpy, memmove and memset only. docs/KERNEL.md says what to lend, what each refusal means and what
+ * each call costs.
+ *
+ * Every call may be given any numbers, any head and any buffer contents. What C cannot check is asked of the
+ * caller: a pointer is aligned for its type and good for as many entries as the length after it says, it is not
+ * null (for a length of 0 any address will do, such as that of the head), and no two buffers of one call overlap,
+ * nor one and the head.
+ */
+#ifndef CORWYSTAL_H
+#define CORWYSTAL_H
+
+#include <stddef.h>
+#include <stdint.h>
+
+#ifdef __cplusplus
+extern "C" {
+#endif
+
+/* ---- sizes */
+
+#define CORWYSTAL_MOST_SPACES 64u
+#define CORWYSTAL_MOST_PLACES 262144u /* T = spaces x pages */
+#define CORWYSTAL_MOST_FRAMES 65536u
+#define CORWYSTAL_LEAST_PAGE 256u
+#define CORWYSTAL_MOST_PAGE 65536u
+
+/*
+ * Entries of each buffer, as constants, for memory that is laid out when the kernel is built:
+ *     index                             CORWYSTAL_INDEX_WORDS(T)   uint64_t
+ *     count, table, helper, stack, cache             T entries each, uint32_t
+ *     link                                           F entries,      uint32_t
+ *     ram                                            F x P bytes
+ */
+#define CORWYSTAL_LAYER_WORDS(bits) (((size_t)(bits) + 63) / 64)
+#define CORWYSTAL_LAYER_ABOVE(words) ((words) > 1 ? CORWYSTAL_LAYER_WORDS(words) : 0)
+#define CORWYSTAL_INDEX_WORDS(t)                                                                                       \
+    (CORWYSTAL_LAYER_WORDS(t) + CORWYSTAL_LAYER_ABOVE(CORWYSTAL_LAYER_WORDS(t)) +                                      \
+     CORWYSTAL_LAYER_ABOVE(CORWYSTAL_LAYER_ABOVE(CORWYSTAL_LAYER_WORDS(t))))
+
+/* Entries of each buffer, computed; refusal is 1 for sizes outside their limits, and the rest is then 0. */
+typedef struct corwystal_needs {
+    uint32_t refusal;
+    size_t index;  /* 64-bit words */
+    size_t places; /* 32-bit words of count, table, helper, stack and cache each */
+    size_t link;   /* 32-bit words */
+    size_t ram;    /* bytes */
+} corwystal_needs;
+
+corwystal_needs corwystal_sizes(uint32_t spaces, uint32_t pages, uint32_t frames, uint32_t page);
+
+/* ---- what is lent */
+
+/* The head record. All zeros before the first start; only the calls change it. */
+typedef struct corwystal_head {
+    uint32_t spaces;
+    uint32_t pages;
+    uint32_t frames;
+    uint32_t page_shift; /* the page size as a power of two */
+    uint32_t first;      /* the pool: `many` frames linked from `first` on, then those from `fresh` on */
+    uint32_t many;
+    uint32_t fresh;
+} corwystal_head;
+
+/* One region of a space. */
+typedef struct corwystal_region {
+    uint32_t start;
+    uint32_t length;
+    uint32_t resident;
+} corwystal_region;
+
+/* ---- answers */
+
+typedef struct corwystal_answer {
+    uint32_t kind;  /* 1 to 11: the number of a refusal; from 16 on: what was answered */
+    uint32_t words; /* index words read by touch and look; 0 in every other answer */
+    uint64_t value; /* see the kinds; 0 where none is named, and in every refusal */
+} corwystal_answer;
+
+enum {
+    CORWYSTAL_NO_SIZE = 1,      /* a size outside its limits, a buffer too short, or no start made */
+    CORWYSTAL_NO_SPACE = 2,     /* no such space */
+    CORWYSTAL_NO_PAGE = 3,      /* no such page or address, or the span ends beyond its space */
+    CORWYSTAL_NO_REGION = 4,    /* the page lies below every start of its space */
+    CORWYSTAL_NO_START = 5,     /* the page is no start */
+    CORWYSTAL_START_ALREADY = 6, /* the page is a start already */
+    CORWYSTAL_RESIDENT_PAGES = 7, /* the region has resident pages */
+    CORWYSTAL_NO_FRAME = 8,     /* the pool has too few frames */
+    CORWYSTAL_NOT_OURS = 9,     /* head or tables are not what these calls left */
+    CORWYSTAL_NOT_RESIDENT = 10, /* the page is in a region, but absent */
+    CORWYSTAL_NO_ROOM = 11,     /* fewer records than regions */
+
+    CORWYSTAL_DONE = 16,     /* start, mark, drop, write */
+    CORWYSTAL_OLD = 17,      /* touch: value is the frame; the page was resident */
+    CORWYSTAL_NEW = 18,      /* touch: value is the frame; it was mapped just now */
+    CORWYSTAL_RESIDENT = 19, /* look: value is the frame */
+    CORWYSTAL_ABSENT = 20,   /* look */
+    CORWYSTAL_PAGES = 21,    /* release: value is the number of pages given back */
+    CORWYSTAL_FRAMES = 22,   /* free: value is the number of frames in the pool */
+    CORWYSTAL_AT = 23,       /* translate: value is the place in RAM */
+    CORWYSTAL_BYTES = 24,    /* read: value is the number of bytes, all of the buffer */
+    CORWYSTAL_REGIONS = 25   /* list: value is the number of records filled */
+};
+
+static inline int corwystal_refused(corwystal_answer a) { return a.kind < 16; }
+
+/* ---- the calls */
+
+/* Sets the sizes: no starts, every frame in the pool. Prepares index and count; the rest may hold anything. */
+corwystal_answer corwystal_start(corwystal_head *head, uint32_t spaces, uint32_t pages, uint32_t frames, uint32_t page,
+                                 uint64_t *index, size_t index_len, uint32_t *count, size_t count_len);
+
+/* Makes a page a region's start. The region that it cuts must have no resident page. */
+corwystal_answer corwystal_mark(const corwystal_head *head, uint32_t space, uint32_t page, uint64_t *index,
+                                size_t index_len, const uint32_t *count, size_t count_len);
+
+/* Makes a start none any more. Its region must have no resident page. */
+corwystal_answer corwystal_drop(const corwystal_head *head, uint32_t space, uint32_t page, uint64_t *index,
+                                size_t index_len, const uint32_t *count, size_t count_len);
+
+/* The frame of a page, mapped if need be. A new page shows what its frame last held. */
+corwystal_answer corwystal_touch(corwystal_head *head, uint32_t space, uint32_t page, const uint64_t *index,
+                                 size_t index_len, uint32_t *count, size_t count_len, uint32_t *table,
+                                 size_t table_len, uint32_t *helper, size_t helper_len, uint32_t *stack,
+                                 size_t stack_len, uint32_t *cache, size_t cache_len, uint32_t *link, size_t link_len);
+
+/* Whether a page is resident, and its frame. */
+corwystal_answer corwystal_look(const corwystal_head *head, uint32_t space, uint32_t page, const uint64_t *index,
+                                size_t index_len, const uint32_t *count, size_t count_len, const uint32_t *table,
+                                size_t table_len, const uint32_t *helper, size_t helper_len, const uint32_t *stack,
+                                size_t stack_len, const uint32_t *cache, size_t cache_len);
+
+/* Gives back every page of the region that starts at a page, in constant time. The start stays. */
+corwystal_answer corwystal_release(corwystal_head *head, uint32_t space, uint32_t page, const uint64_t *index,
+                                   size_t index_len, uint32_t *count, size_t count_len, const uint32_t *table,
+                                   size_t table_len, const uint32_t *stack, size_t stack_len, uint32_t *link,
+                                   size_t link_len);
+
+/* How many frames the pool has. */
+corwystal_answer corwystal_free(const corwystal_head *head);
+
+/* The place in RAM of an address. */
+corwystal_answer corwystal_translate(const corwystal_head *head, uint32_t space, size_t address, const uint64_t *index,
+                                     size_t index_len, const uint32_t *count, size_t count_len, const uint32_t *table,
+                                     size_t table_len, const uint32_t *helper, size_t helper_len,
+                                     const uint32_t *stack, size_t stack_len, const uint32_t *cache,
+                                     size_t cache_len);
+
+/* Fills the buffer from an address on. A refusal leaves the buffer. */
+corwystal_answer corwystal_read(const corwystal_head *head, uint32_t space, size_t address, uint8_t *buffer,
+                                size_t buffer_len, const uint64_t *index, size_t index_len, const uint32_t *count,
+                                size_t count_len, const uint32_t *table, size_t table_len, const uint32_t *helper,
+                                size_t helper_len, const uint32_t *stack, size_t stack_len, const uint32_t *cache,
+                                size_t cache_len, const uint8_t *ram, size_t ram_len);
+
+/* Stores the bytes from an address on, mapping pages that are absent: all or nothing. */
+corwystal_answer corwystal_write(corwystal_head *head, uint32_t space, size_t address, const uint8_t *bytes,
+                                 size_t bytes_len, const uint64_t *index, size_t index_len, uint32_t *count,
+                                 size_t count_len, uint32_t *table, size_t table_len, uint32_t *helper,
+                                 size_t helper_len, uint32_t *stack, size_t stack_len, uint32_t *cache,
+                                 size_t cache_len, uint32_t *link, size_t link_len, uint8_t *ram, size_t ram_len);
+
+/* One record a region of a space, ascending. Records after the last stay. */
+corwystal_answer corwystal_list(const corwystal_head *head, uint32_t space, corwystal_region *records,
+                                size_t records_len, const uint64_t *index, size_t index_len, const uint32_t *count,
+                                size_t count_len);
+
+#ifdef __cplusplus
+}
+#endif
+
+#endif

@@ -1,0 +1,712 @@
+//! Corwystal, the page manager of the collector boards, for Rust: safe, without the standard library.
+//!
+//! A [`Pager`] borrows its memory for as long as it lives, so nobody else can write it, which is all that the proofs
+//! assume of a caller. It allocates nothing and never panics. Link `libcorwystal.a`; `docs/KERNEL.md` has the rest.
+//!
+//! ```ignore
+//! let mut pager = Pager::start(memory, Sizes { spaces: 1, pages: 8, frames: 3, page: 256 })?;
+//! pager.mark(0, 0)?;
+//! pager.write(0, 1_000, b"3.71")?;
+//! ```
+#![no_std]
+
+use core::fmt;
+
+/// S spaces of N pages, F frames of P bytes: document 01, "Sizes".
+#[derive(Clone, Copy, Debug, PartialEq, Eq)]
+pub struct Sizes {
+    pub spaces: u32,
+    pub pages: u32,
+    pub frames: u32,
+    pub page: u32,
+}
+
+/// The entries that each buffer needs.
+#[derive(Clone, Copy, Debug, PartialEq, Eq)]
+pub struct Needs {
+    /// 64-bit words of the index.
+    pub index: usize,
+    /// 32-bit words of the resident counts, page table, helper, stack and region cache each.
+    pub places: usize,
+    /// 32-bit words of the frame link.
+    pub link: usize,
+    /// Bytes of RAM.
+    pub ram: usize,
+}
+
+/// The words of an index of so many places, as a constant, for memory laid out when the kernel is built.
+pub const fn index_words(places: usize) -> usize {
+    let mut layer = places.div_ceil(64);
+    let mut words = layer;
+    while layer > 1 {
+        layer = layer.div_ceil(64);
+        words += layer;
+    }
+    words
+}
+
+impl Sizes {
+    /// What a start of these sizes and the calls after it must be lent; none for sizes outside their limits.
+    pub fn needs(self) -> Option<Needs> {
+        let needs =
+            unsafe { raw::corwystal_sizes(self.spaces, self.pages, self.frames, self.page) };
+        if needs.refusal != 0 {
+            return None;
+        }
+        Some(Needs {
+            index: needs.index,
+            places: needs.places,
+            link: needs.link,
+            ram: needs.ram,
+        })
+    }
+}
+
+/// Why a call was refused; nothing was changed. The numbers are document 01's.
+#[derive(Clone, Copy, Debug, PartialEq, Eq)]
+#[repr(u32)]
+pub enum Refusal {
+    Size = 1,
+    NoSpace = 2,
+    NoPage = 3,
+    NoRegion = 4,
+    NoStart = 5,
+    StartAlready = 6,
+    ResidentPages = 7,
+    NoFrame = 8,
+    NotOurs = 9,
+    NotResident = 10,
+    NoRoom = 11,
+}
+
+impl Refusal {
+    pub fn number(self) -> u32 {
+        self as u32
+    }
+
+    fn of(kind: u32) -> Refusal {
+        match kind {
+            1 => Refusal::Size,
+            2 => Refusal::NoSpace,
+            3 => Refusal::NoPage,
+            4 => Refusal::NoRegion,
+            5 => Refusal::NoStart,
+            6 => Refusal::StartAlready,
+            7 => Refusal::ResidentPages,
+            8 => Refusal::NoFrame,
+            10 => Refusal::NotResident,
+            11 => Refusal::NoRoom,
+            _ => Refusal::NotOurs,
+        }
+    }
+}
+
+impl fmt::Display for Refusal {
+    fn fmt(&self, f: &mut fmt::Formatter<'_>) -> fmt::Result {
+        f.write_str(match self {
+            Refusal::Size => "a size outside its limits, or a buffer too short for the sizes",
+            Refusal::NoSpace => "no such space",
+            Refusal::NoPage => "no such page or address, or the span ends beyond its space",
+            Refusal::NoRegion => "the page has no region: mark a start at it or before it",
+            Refusal::NoStart => "the page is no start",
+            Refusal::StartAlready => "the page is a start already",
+            Refusal::ResidentPages => "the region has resident pages: release it first",
+            Refusal::NoFrame => "the pool has too few frames: release a region",
+            Refusal::NotOurs => "head or tables are not what these calls left: start anew",
+            Refusal::NotResident => "the page is in a region, but absent: touch or write it first",
+            Refusal::NoRoom => "fewer records than regions: lend a longer slice",
+        })
+    }
+}
+
+impl core::error::Error for Refusal {}
+
+/// A refused touch or look, with the index words that were read.
+#[derive(Clone, Copy, Debug, PartialEq, Eq)]
+pub struct Refused {
+    pub refusal: Refusal,
+    pub words: u32,
+}
+
+impl fmt::Display for Refused {
+    fn fmt(&self, f: &mut fmt::Formatter<'_>) -> fmt::Result {
+        self.refusal.fmt(f)
+    }
+}
+
+impl core::error::Error for Refused {}
+
+impl From<Refused> for Refusal {
+    fn from(refused: Refused) -> Refusal {
+        refused.refusal
+    }
+}
+
+/// The frame of a page that was touched.
+#[derive(Clone, Copy, Debug, PartialEq, Eq)]
+pub enum Touched {
+    /// The page was resident.
+    Old { frame: u32 },
+    /// The page was mapped just now; it shows what its frame last held.
+    New { frame: u32, words: u32 },
+}
+
+/// What a look found.
+#[derive(Clone, Copy, Debug, PartialEq, Eq)]
+pub enum Looked {
+    Resident { frame: u32 },
+    Absent { words: u32 },
+}
+
+/// One region of a space.
+#[repr(C)]
+#[derive(Clone, Copy, Debug, Default, PartialEq, Eq)]
+pub struct Region {
+    pub start: u32,
+    pub length: u32,
+    pub resident: u32,
+}
+
+/// The memory that a pager works on. Only index and counts are prepared by a start; the rest may hold anything.
+pub struct Memory<'a> {
+    pub index: &'a mut [u64],
+    pub count: &'a mut [u32],
+    pub table: &'a mut [u32],
+    pub helper: &'a mut [u32],
+    pub stack: &'a mut [u32],
+    pub cache: &'a mut [u32],
+    pub link: &'a mut [u32],
+    pub ram: &'a mut [u8],
+}
+
+/// A pager on borrowed memory.
+pub struct Pager<'a> {
+    head: raw::Head,
+    memory: Memory<'a>,
+}
+
+impl Memory<'_> {
+    fn holds(&self, needs: &Needs) -> bool {
+        needs.index <= self.index.len()
+            && needs.places <= self.count.len()
+            && needs.places <= self.table.len()
+            && needs.places <= self.helper.len()
+            && needs.places <= self.stack.len()
+            && needs.places <= self.cache.len()
+            && needs.link <= self.link.len()
+            && needs.ram <= self.ram.len()
+    }
+}
+
+impl<'a> Pager<'a> {
+    /// Begins with these sizes: no starts, every frame in the pool. Refused where a buffer is too short for them.
+    pub fn start(memory: Memory<'a>, sizes: Sizes) -> Result<Pager<'a>, Refusal> {
+        let mut pager = Pager {
+            head: raw::Head::default(),
+            memory,
+        };
+        pager.restart(sizes)?;
+        Ok(pager)
+    }
+
+    /// Begins anew; the RAM stays as it stands. A refusal leaves the pager as it was.
+    pub fn restart(&mut self, sizes: Sizes) -> Result<(), Refusal> {
+        let needs = sizes.needs().ok_or(Refusal::Size)?;
+        if !self.memory.holds(&needs) {
+            return Err(Refusal::Size);
+        }
+        let m = &mut self.memory;
+        let answer = unsafe {
+            raw::corwystal_start(
+                &mut self.head,
+                sizes.spaces,
+                sizes.pages,
+                sizes.frames,
+                sizes.page,
+                m.index.as_mut_ptr(),
+                m.index.len(),
+                m.count.as_mut_ptr(),
+                m.count.len(),
+            )
+        };
+        answer.done()
+    }
+
+    /// Makes a page a region's start. The region that it cuts must have no resident page.
+    pub fn mark(&mut self, space: u32, page: u32) -> Result<(), Refusal> {
+        let m = &mut self.memory;
+        let answer = unsafe {
+            raw::corwystal_mark(
+                &self.head,
+                space,
+                page,
+                m.index.as_mut_ptr(),
+                m.index.len(),
+                m.count.as_ptr(),
+                m.count.len(),
+            )
+        };
+        answer.done()
+    }
+
+    /// Makes a start none any more; its pages join the region before it. It must have no resident page.
+    pub fn drop_start(&mut self, space: u32, page: u32) -> Result<(), Refusal> {
+        let m = &mut self.memory;
+        let answer = unsafe {
+            raw::corwystal_drop(
+                &self.head,
+                space,
+                page,
+                m.index.as_mut_ptr(),
+                m.index.len(),
+                m.count.as_ptr(),
+                m.count.len(),
+            )
+        };
+        answer.done()
+    }
+
+    /// The frame of a page, mapped if need be.
+    pub fn touch(&mut self, space: u32, page: u32) -> Result<Touched, Refused> {
+        let m = &mut self.memory;
+        let answer = unsafe {
+            raw::corwystal_touch(
+                &mut self.head,
+                space,
+                page,
+                m.index.as_ptr(),
+                m.index.len(),
+                m.count.as_mut_ptr(),
+                m.count.len(),
+                m.table.as_mut_ptr(),
+                m.table.len(),
+                m.helper.as_mut_ptr(),
+                m.helper.len(),
+                m.stack.as_mut_ptr(),
+                m.stack.len(),
+                m.cache.as_mut_ptr(),
+                m.cache.len(),
+                m.link.as_mut_ptr(),
+                m.link.len(),
+            )
+        };
+        let frame = answer.value as u32;
+        match answer.kind {
+            raw::OLD => Ok(Touched::Old { frame }),
+            raw::NEW => Ok(Touched::New {
+                frame,
+                words: answer.words,
+            }),
+            _ => Err(answer.refused()),
+        }
+    }
+
+    /// Whether a page is resident, and its frame.
+    pub fn look(&self, space: u32, page: u32) -> Result<Looked, Refused> {
+        let m = &self.memory;
+        let answer = unsafe {
+            raw::corwystal_look(
+                &self.head,
+                space,
+                page,
+                m.index.as_ptr(),
+                m.index.len(),
+                m.count.as_ptr(),
+                m.count.len(),
+                m.table.as_ptr(),
+                m.table.len(),
+                m.helper.as_ptr(),
+                m.helper.len(),
+                m.stack.as_ptr(),
+                m.stack.len(),
+                m.cache.as_ptr(),
+                m.cache.len(),
+            )
+        };
+        match answer.kind {
+            raw::RESIDENT => Ok(Looked::Resident {
+                frame: answer.value as u32,
+            }),
+            raw::ABSENT => Ok(Looked::Absent {
+                words: answer.words,
+            }),
+            _ => Err(answer.refused()),
+        }
+    }
+
+    /// Gives back every page of the region that starts at a page, in constant time, and answers how many. The start stays.
+    pub fn release(&mut self, space: u32, page: u32) -> Result<u32, Refusal> {
+        let m = &mut self.memory;
+        let answer = unsafe {
+            raw::corwystal_release(
+                &mut self.head,
+                space,
+                page,
+                m.index.as_ptr(),
+                m.index.len(),
+                m.count.as_mut_ptr(),
+                m.count.len(),
+                m.table.as_ptr(),
+                m.table.len(),
+                m.stack.as_ptr(),
+                m.stack.len(),
+                m.link.as_mut_ptr(),
+                m.link.len(),
+            )
+        };
+        Ok(answer.value_of(raw::PAGES)? as u32)
+    }
+
+    /// How many frames the pool has.
+    pub fn free(&self) -> Result<u32, Refusal> {
+        let answer = unsafe { raw::corwystal_free(&self.head) };
+        Ok(answer.value_of(raw::FRAMES)? as u32)
+    }
+
+    /// The place in RAM of an address.
+    pub fn translate(&self, space: u32, address: usize) -> Result<usize, Refusal> {
+        let m = &self.memory;
+        let answer = unsafe {
+            raw::corwystal_translate(
+                &self.head,
+                space,
+                address,
+                m.index.as_ptr(),
+                m.index.len(),
+                m.count.as_ptr(),
+                m.count.len(),
+                m.table.as_ptr(),
+                m.table.len(),
+                m.helper.as_ptr(),
+                m.helper.len(),
+                m.stack.as_ptr(),
+                m.stack.len(),
+                m.cache.as_ptr(),
+                m.cache.len(),
+            )
+        };
+        Ok(answer.value_of(raw::AT)? as usize)
+    }
+
+    /// Fills the buffer from an address on. A refusal leaves the buffer.
+    pub fn read(&self, space: u32, address: usize, buffer: &mut [u8]) -> Result<(), Refusal> {
+        let m = &self.memory;
+        let answer = unsafe {
+            raw::corwystal_read(
+                &self.head,
+                space,
+                address,
+                buffer.as_mut_ptr(),
+                buffer.len(),
+                m.index.as_ptr(),
+                m.index.len(),
+                m.count.as_ptr(),
+                m.count.len(),
+                m.table.as_ptr(),
+                m.table.len(),
+                m.helper.as_ptr(),
+                m.helper.len(),
+                m.stack.as_ptr(),
+                m.stack.len(),
+                m.cache.as_ptr(),
+                m.cache.len(),
+                m.ram.as_ptr(),
+                m.ram.len(),
+            )
+        };
+        answer.value_of(raw::BYTES)?;
+        Ok(())
+    }
+
+    /// Stores the bytes from an address on, mapping pages that are absent: all or nothing.
+    pub fn write(&mut self, space: u32, address: usize, bytes: &[u8]) -> Result<(), Refusal> {
+        let m = &mut self.memory;
+        let answer = unsafe {
+            raw::corwystal_write(
+                &mut self.head,
+                space,
+                address,
+                bytes.as_ptr(),
+                bytes.len(),
+                m.index.as_ptr(),
+                m.index.len(),
+                m.count.as_mut_ptr(),
+                m.count.len(),
+                m.table.as_mut_ptr(),
+                m.table.len(),
+                m.helper.as_mut_ptr(),
+                m.helper.len(),
+                m.stack.as_mut_ptr(),
+                m.stack.len(),
+                m.cache.as_mut_ptr(),
+                m.cache.len(),
+                m.link.as_mut_ptr(),
+                m.link.len(),
+                m.ram.as_mut_ptr(),
+                m.ram.len(),
+            )
+        };
+        answer.done()
+    }
+
+    /// The regions of a space, ascending, at the front of the records; those after the last stay.
+    pub fn list<'r>(&self, space: u32, records: &'r mut [Region]) -> Result<&'r [Region], Refusal> {
+        let m = &self.memory;
+        let answer = unsafe {
+            raw::corwystal_list(
+                &self.head,
+                space,
+                records.as_mut_ptr(),
+                records.len(),
+                m.index.as_ptr(),
+                m.index.len(),
+                m.count.as_ptr(),
+                m.count.len(),
+            )
+        };
+        let n = answer.value_of(raw::REGIONS)? as usize;
+        Ok(&records[..n])
+    }
+
+    /// The bytes of a frame, to look at.
+    pub fn frame(&self, frame: u32) -> Option<&[u8]> {
+        if frame >= self.head.frames {
+            return None;
+        }
+        let size = 1usize << self.head.page_shift;
+        let from = frame as usize * size;
+        self.memory.ram.get(from..from + size)
+    }
+}
+
+// The C entrance, as bindings/c/corwystal.h declares it.
+mod raw {
+    use super::{Refusal, Refused, Region};
+
+    pub const DONE: u32 = 16;
+    pub const OLD: u32 = 17;
+    pub const NEW: u32 = 18;
+    pub const RESIDENT: u32 = 19;
+    pub const ABSENT: u32 = 20;
+    pub const PAGES: u32 = 21;
+    pub const FRAMES: u32 = 22;
+    pub const AT: u32 = 23;
+    pub const BYTES: u32 = 24;
+    pub const REGIONS: u32 = 25;
+
+    #[repr(C)]
+    pub struct Needs {
+        pub refusal: u32,
+        pub index: usize,
+        pub places: usize,
+        pub link: usize,
+        pub ram: usize,
+    }
+
+    #[repr(C)]
+    #[derive(Default)]
+    pub struct Head {
+        pub spaces: u32,
+        pub pages: u32,
+        pub frames: u32,
+        pub page_shift: u32,
+        pub first: u32,
+        pub many: u32,
+        pub fresh: u32,
+    }
+
+    #[repr(C)]
+    pub struct Answer {
+        pub kind: u32,
+        pub words: u32,
+        pub value: u64,
+    }
+
+    impl Answer {
+        pub fn value_of(self, kind: u32) -> Result<u64, Refusal> {
+            if self.kind == kind {
+                Ok(self.value)
+            } else {
+                Err(Refusal::of(self.kind))
+            }
+        }
+
+        pub fn done(self) -> Result<(), Refusal> {
+            self.value_of(DONE).map(|_| ())
+        }
+
+        pub fn refused(self) -> Refused {
+            Refused {
+                refusal: Refusal::of(self.kind),
+                words: self.words,
+            }
+        }
+    }
+
+    extern "C" {
+        pub fn corwystal_sizes(spaces: u32, pages: u32, frames: u32, page: u32) -> Needs;
+
+        pub fn corwystal_start(
+            head: *mut Head,
+            spaces: u32,
+            pages: u32,
+            frames: u32,
+            page: u32,
+            index: *mut u64,
+            index_len: usize,
+            count: *mut u32,
+            count_len: usize,
+        ) -> Answer;
+
+        pub fn corwystal_mark(
+            head: *const Head,
+            space: u32,
+            page: u32,
+            index: *mut u64,
+            index_len: usize,
+            count: *const u32,
+            count_len: usize,
+        ) -> Answer;
+
+        pub fn corwystal_drop(
+            head: *const Head,
+            space: u32,
+            page: u32,
+            index: *mut u64,
+            index_len: usize,
+            count: *const u32,
+            count_len: usize,
+        ) -> Answer;
+
+        pub fn corwystal_touch(
+            head: *mut Head,
+            space: u32,
+            page: u32,
+            index: *const u64,
+            index_len: usize,
+            count: *mut u32,
+            count_len: usize,
+            table: *mut u32,
+            table_len: usize,
+            helper: *mut u32,
+            helper_len: usize,
+            stack: *mut u32,
+            stack_len: usize,
+            cache: *mut u32,
+            cache_len: usize,
+            link: *mut u32,
+            link_len: usize,
+        ) -> Answer;
+
+        pub fn corwystal_look(
+            head: *const Head,
+            space: u32,
+            page: u32,
+            index: *const u64,
+            index_len: usize,
+            count: *const u32,
+            count_len: usize,
+            table: *const u32,
+            table_len: usize,
+            helper: *const u32,
+            helper_len: usize,
+            stack: *const u32,
+            stack_len: usize,
+            cache: *const u32,
+            cache_len: usize,
+        ) -> Answer;
+
+        pub fn corwystal_release(
+            head: *mut Head,
+            space: u32,
+            page: u32,
+            index: *const u64,
+            index_len: usize,
+            count: *mut u32,
+            count_len: usize,
+            table: *const u32,
+            table_len: usize,
+            stack: *const u32,
+            stack_len: usize,
+            link: *mut u32,
+            link_len: usize,
+        ) -> Answer;
+
+        pub fn corwystal_free(head: *const Head) -> Answer;
+
+        pub fn corwystal_translate(
+            head: *const Head,
+            space: u32,
+            address: usize,
+            index: *const u64,
+            index_len: usize,
+            count: *const u32,
+            count_len: usize,
+            table: *const u32,
+            table_len: usize,
+            helper: *const u32,
+            helper_len: usize,
+            stack: *const u32,
+            stack_len: usize,
+            cache: *const u32,
+            cache_len: usize,
+        ) -> Answer;
+
+        pub fn corwystal_read(
+            head: *const Head,
+            space: u32,
+            address: usize,
+            buffer: *mut u8,
+            buffer_len: usize,
+            index: *const u64,
+            index_len: usize,
+            count: *const u32,
+            count_len: usize,
+            table: *const u32,
+            table_len: usize,
+            helper: *const u32,
+            helper_len: usize,
+            stack: *const u32,
+            stack_len: usize,
+            cache: *const u32,
+            cache_len: usize,
+            ram: *const u8,
+            ram_len: usize,
+        ) -> Answer;
+
+        pub fn corwystal_write(
+            head: *mut Head,
+            space: u32,
+            address: usize,
+            bytes: *const u8,
+            bytes_len: usize,
+            index: *const u64,
+            index_len: usize,
+            count: *mut u32,
+            count_len: usize,
+            table: *mut u32,
+            table_len: usize,
+            helper: *mut u32,
+            helper_len: usize,
+            stack: *mut u32,
+            stack_len: usize,
+            cache: *mut u32,
+            cache_len: usize,
+            link: *mut u32,
+            link_len: usize,
+            ram: *mut u8,
+            ram_len: usize,
+        ) -> Answer;
+
+        pub fn corwystal_list(
+            head: *const Head,
+            space: u32,
+            records: *mut Region,
+            records_len: usize,
+            index: *const u64,
+            index_len: usize,
+            count: *const u32,
+            count_len: usize,
+        ) -> Answer;
+    }
+}
