@@ -2,7 +2,8 @@
 // Written from the document alone, whose words stand in quotation marks: a set of starts, for each
 // region a list of pages and frames, the pool as a list, the RAM. No table, no index, no layer.
 #![allow(dead_code)]
-use std::collections::{BTreeMap, BTreeSet, VecDeque};
+use std::collections::{BTreeMap, BTreeSet, HashMap, VecDeque};
+use std::ops::Range;
 
 // ---- "Sizes"
 
@@ -50,12 +51,12 @@ fn index_words(places: u64) -> u64 {
 
 impl Sizes {
     // "T = S x N"
-    fn places(&self) -> u64 {
+    pub fn places(&self) -> u64 {
         self.spaces * self.pages
     }
 
     // The products are taken of numbers within their limits only.
-    fn within_limits(&self) -> bool {
+    pub fn within_limits(&self) -> bool {
         (1..=64).contains(&self.spaces)
             && (1..=262_144).contains(&self.pages)
             && self.places() <= 262_144
@@ -63,12 +64,12 @@ impl Sizes {
             && is_page_size(self.page)
     }
 
-    fn space_bytes(&self) -> u64 {
+    pub fn space_bytes(&self) -> u64 {
         self.pages * self.page
     }
 
     // "Page b of space i stands at place i x N + b"
-    fn place(&self, space: u64, page: u64) -> u64 {
+    pub fn place(&self, space: u64, page: u64) -> u64 {
         space * self.pages + page
     }
 
@@ -80,7 +81,7 @@ impl Sizes {
     }
 
     // The pages of a span that ends within its space.
-    fn span(&self, address: u64, count: u64) -> std::ops::Range<u64> {
+    pub fn span(&self, address: u64, count: u64) -> Range<u64> {
         let first = address / self.page;
         if count == 0 {
             return first..first;
@@ -122,7 +123,7 @@ pub struct Call {
 
 impl Ask {
     // Which call is lent which buffer: the document leaves it open, docs/DECISIONS.md has it.
-    fn is_lent(&self) -> [u64; 8] {
+    pub fn is_lent(&self) -> [u64; 8] {
         match self {
             Ask::Start(..) | Ask::Mark(..) | Ask::Drop(..) => [1, 1, 0, 0, 0, 0, 0, 0],
             Ask::Touch(..) => [1, 1, 1, 1, 1, 1, 1, 0],
@@ -135,7 +136,7 @@ impl Ask {
         }
     }
 
-    fn space(&self) -> Option<u64> {
+    pub fn space(&self) -> Option<u64> {
         match *self {
             Ask::Start(_) | Ask::Free => None,
             Ask::Mark(space, _) | Ask::Drop(space, _) | Ask::Touch(space, _) => Some(space),
@@ -146,7 +147,7 @@ impl Ask {
     }
 
     // Whether its page, address or span lies inside a space.
-    fn is_inside(&self, sizes: &Sizes) -> bool {
+    pub fn is_inside(&self, sizes: &Sizes) -> bool {
         let ends = |address: u64, count: u64| {
             let end = address.checked_add(count);
             end.is_some_and(|end| end <= sizes.space_bytes())
@@ -174,7 +175,7 @@ impl Call {
     }
 
     // Refusals 1, 2 and 3, in their order; the sizes are a start's own, else the machine's.
-    fn check(&self, now: &Sizes) -> Result<(), u64> {
+    pub fn check(&self, now: &Sizes) -> Result<(), u64> {
         let sizes = match &self.ask {
             Ask::Start(sizes) => sizes,
             _ => now,
@@ -264,6 +265,8 @@ pub struct Machine {
     starts: BTreeSet<u64>,
     // by its start, each region's pairs (place of the page, frame) "in order of mapping"
     lists: BTreeMap<u64, Vec<(u64, u64)>>,
+    // the frame of each place in the lists, so that no list is searched
+    held: HashMap<u64, u64>,
     pool: VecDeque<u64>,
     ram: Vec<u8>,
 }
@@ -283,6 +286,7 @@ impl Machine {
             sizes: NONE,
             starts: BTreeSet::new(),
             lists: BTreeMap::new(),
+            held: HashMap::new(),
             pool: VecDeque::new(),
             ram,
         }
@@ -298,6 +302,15 @@ impl Machine {
 
     pub fn sizes(&self) -> Sizes {
         self.sizes
+    }
+
+    pub fn starts(&self) -> &BTreeSet<u64> {
+        &self.starts
+    }
+
+    // The lists that aren't empty.
+    pub fn lists(&self) -> &BTreeMap<u64, Vec<(u64, u64)>> {
+        &self.lists
     }
 
     // "The resident pages of all spaces are counted over the regions' lists"
@@ -335,12 +348,12 @@ impl Machine {
 
     // "A region runs from its start to just before the next start of its space, or to the space's
     // end": the start of the region of a place.
-    fn region(&self, place: u64) -> Option<u64> {
+    pub fn region(&self, place: u64) -> Option<u64> {
         let first = place - place % self.sizes.pages;
         self.starts.range(first..=place).next_back().copied()
     }
 
-    fn list_of(&self, start: u64) -> &[(u64, u64)] {
+    pub fn list_of(&self, start: u64) -> &[(u64, u64)] {
         self.lists.get(&start).map_or(&[], |list| list)
     }
 
@@ -348,9 +361,8 @@ impl Machine {
         let Some(start) = self.region(place) else {
             return Page::Outside;
         };
-        let list = self.list_of(start);
-        match list.iter().find(|pair| pair.0 == place) {
-            Some(&(_, frame)) => Page::Resident(frame),
+        match self.held.get(&place) {
+            Some(&frame) => Page::Resident(frame),
             None => Page::Absent(start),
         }
     }
@@ -373,6 +385,7 @@ impl Machine {
     fn map(&mut self, start: u64, place: u64) -> Option<u64> {
         let frame = self.pool.pop_front()?;
         self.lists.entry(start).or_default().push((place, frame));
+        self.held.insert(place, frame);
         Some(frame)
     }
 
@@ -383,6 +396,7 @@ impl Machine {
         self.sizes = sizes;
         self.starts.clear();
         self.lists.clear();
+        self.held.clear();
         self.pool = (0..sizes.frames).collect();
         Answer::Done
     }
@@ -439,8 +453,9 @@ impl Machine {
             return Answer::Refused(5, None);
         }
         let list = self.lists.remove(&place).unwrap_or_default();
-        for &(_, frame) in &list {
-            self.pool.push_front(frame);
+        for (place, frame) in &list {
+            self.pool.push_front(*frame);
+            self.held.remove(place);
         }
         Answer::Pages(list.len() as u64)
     }
@@ -463,39 +478,40 @@ impl Machine {
         }
     }
 
-    // The frames of a span's pages, or the refusal of "the first that isn't resident".
-    fn frames(&self, space: u64, address: u64, count: u64) -> Result<Vec<u64>, u64> {
-        let span = self.sizes.span(address, count);
-        span.map(|page| self.frame(space, page)).collect()
-    }
-
-    // Where the RAM has each byte of a span with these frames.
-    fn places(&self, frames: Vec<u64>, address: u64, count: u64) -> impl Iterator<Item = usize> {
+    // Where the RAM has each page's part of a span, or the refusal of "the first that isn't
+    // resident".
+    pub fn parts(&self, space: u64, address: u64, count: u64) -> Result<Vec<Range<usize>>, u64> {
         let size = self.sizes.page;
-        let place = move |x: u64| frames[(x / size - address / size) as usize] * size + x % size;
-        (address..address + count).map(move |x| place(x) as usize)
+        let part = |page: u64| {
+            let first = address.max(page * size);
+            let end = (address + count).min((page + 1) * size);
+            let at = self.frame(space, page)? * size + first % size;
+            Ok(at as usize..(at + end - first) as usize)
+        };
+        self.sizes.span(address, count).map(part).collect()
     }
 
     // "each page of the span is looked up first, ascending .. Otherwise the bytes are copied out"
     fn read(&self, space: u64, address: u64, count: u64) -> Answer {
-        match self.frames(space, address, count) {
-            Ok(frames) => {
-                let places = self.places(frames, address, count);
-                Answer::Bytes(places.map(|p| self.ram[p]).collect())
+        match self.parts(space, address, count) {
+            Ok(parts) => {
+                let bytes: Vec<&[u8]> = parts.into_iter().map(|part| &self.ram[part]).collect();
+                Answer::Bytes(bytes.concat())
             }
             Err(number) => Answer::Refused(number, None),
         }
     }
 
     // "touches every page of the span, ascending, then stores. All or nothing"
-    fn write(&mut self, space: u64, address: u64, bytes: &[u8]) -> Answer {
+    fn write(&mut self, space: u64, address: u64, mut bytes: &[u8]) -> Answer {
         let count = bytes.len() as u64;
         if let Err(number) = self.touch_all(space, address, count) {
             return Answer::Refused(number, None);
         }
-        let frames = self.frames(space, address, count).unwrap();
-        for (p, byte) in self.places(frames, address, count).zip(bytes) {
-            self.ram[p] = *byte;
+        for part in self.parts(space, address, count).unwrap() {
+            let (now, later) = bytes.split_at(part.len());
+            self.ram[part].copy_from_slice(now);
+            bytes = later;
         }
         Answer::Done
     }

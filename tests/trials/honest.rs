@@ -1,0 +1,309 @@
+// One honest trial: the same calls for the pager and for the plain machine, on memory that held
+// garbage before the start. Answers, buffers and what each call changed are compared after every one.
+use crate::draw::Draw;
+use crate::entrance::{self, Answer, Loan};
+use crate::garbage::{index_of, Garbage};
+use crate::memory::{Allowed, Memory, BYTES, COUNT, HEAD, INDEX, LINK, PARTS, READ, RECORDS};
+use crate::plain::{self, Ask, Call, Machine, Sizes};
+use crate::tally::{line, Tally};
+use crate::traffic::{favourites, Mix, Traffic};
+use crate::watch;
+
+// What a trial is made of.
+#[derive(Clone, Copy)]
+pub struct Plan {
+    pub seed: u64,
+    pub sizes: Sizes,
+    pub garbage: Garbage,
+    // the excess of every buffer is inaccessible, else a pattern
+    pub unreachable: bool,
+    pub longest: u64,
+}
+
+pub struct Trial<'a> {
+    pub plan: Plan,
+    pub machine: Machine,
+    pub memory: Memory,
+    pub traffic: Traffic,
+    pub tally: &'a mut Tally,
+    pub calls: u64,
+}
+
+// The plain machine's answer, as the entrance gives it.
+fn told(answer: &plain::Answer, count: u64) -> Answer {
+    use plain::Answer::*;
+    let (kind, words, value) = match answer {
+        Done => (entrance::DONE, 0, 0),
+        Old(frame) => (entrance::OLD, 0, *frame),
+        New(frame, words) => (entrance::NEW, *words, *frame),
+        Resident(frame) => (entrance::RESIDENT, 0, *frame),
+        Absent(words) => (entrance::ABSENT, *words, 0),
+        Pages(many) => (entrance::PAGES, 0, *many),
+        Free(many) => (entrance::FRAMES, 0, *many),
+        At(place) => (entrance::AT, 0, *place),
+        Bytes(_) => (entrance::BYTES, 0, count),
+        Regions(regions) => (entrance::REGIONS, 0, regions.len() as u64),
+        Refused(number, words) => (*number as u32, words.unwrap_or(0), 0),
+    };
+    let words = words as u32;
+    Answer { kind, words, value }
+}
+
+impl Trial<'_> {
+    pub fn new(plan: Plan, tally: &mut Tally) -> Trial<'_> {
+        let mut draw = Draw::new(plan.seed);
+        let mut memory = Memory::new(&mut draw, &plan.sizes, plan.longest, plan.unreachable);
+        let favourites = favourites(&mut draw, &plan.sizes);
+        let words = plan.garbage.words(&mut draw, &plan.sizes, &favourites);
+        let ram = memory.fill(&mut draw, &words);
+        let traffic = Traffic {
+            draw,
+            first: plan.sizes,
+            favourites,
+            is_careless: false,
+            longest: plan.longest,
+        };
+        tally.runs += 1;
+        Trial {
+            plan,
+            machine: Machine::new(ram),
+            memory,
+            traffic,
+            tally,
+            calls: 0,
+        }
+    }
+
+    // ---- calls
+
+    // Calls of a mix; one in so many is likely to be amiss in several ways.
+    pub fn drawn(&mut self, many: u64, mix: &Mix) -> Result<(), String> {
+        for _ in 0..many {
+            self.traffic.is_careless = self.traffic.draw.once_in(20);
+            let ask = self.traffic.ask(&self.machine, &self.memory, mix);
+            self.ask(ask)?;
+        }
+        self.traffic.is_careless = false;
+        Ok(())
+    }
+
+    pub fn ask(&mut self, ask: Ask) -> Result<Answer, String> {
+        let call = self.traffic.lend(&self.machine, &self.memory, ask);
+        self.call(call)
+    }
+
+    fn tell(&self, call: &Call) -> String {
+        let Plan {
+            seed,
+            sizes,
+            garbage,
+            ..
+        } = self.plan;
+        let Sizes {
+            spaces,
+            pages,
+            frames,
+            page,
+        } = sizes;
+        let of = format!("sizes {spaces} {pages} {frames} {page}, {garbage:?}");
+        format!(
+            "honest seed {seed} ({of}), call {}: {}, lent {:?}",
+            self.calls,
+            line(&call.ask),
+            call.lent
+        )
+    }
+
+    // The memory that a call is lent, its own buffer of so many bytes included.
+    fn loan(&mut self, call: &Call) -> Loan {
+        let (part, bytes) = match &call.ask {
+            Ask::Write(_, _, bytes) => {
+                self.memory.lay_down(bytes);
+                (BYTES, bytes.len() as u64)
+            }
+            Ask::List(_, room) => (RECORDS, self.memory.own_records(*room)),
+            Ask::Read(_, _, count) if self.memory.has_own(READ, *count) => (READ, *count),
+            _ => (READ, 0),
+        };
+        let mut loan = self.memory.loan(call.lent, part, bytes);
+        if matches!(&call.ask, Ask::Read(_, _, count) if !self.memory.has_own(READ, *count)) {
+            loan.own = watch::unreachable();
+        }
+        loan
+    }
+
+    pub fn call(&mut self, call: Call) -> Result<Answer, String> {
+        let loan = self.loan(&call);
+        let before = self.machine.sizes();
+        let pool = self.machine.pool().len();
+        let answer = watch::during(&|| self.tell(&call), || unsafe {
+            entrance::make(&call.ask, &loan)
+        });
+        let should = self.machine.play(&call);
+        let count = if let Ask::Read(_, _, count) = call.ask {
+            count
+        } else {
+            0
+        };
+        if answer != told(&should, count) {
+            let should = told(&should, count);
+            return Err(format!(
+                "{}: pager {answer:?}, plain machine {should:?}",
+                self.tell(&call)
+            ));
+        }
+        self.expect(&call, &should);
+        let new = pool.saturating_sub(self.machine.pool().len());
+        let allowed = self.allowed(&call, &answer, new);
+        let same = self.memory.compare(self.machine.ram(), &allowed);
+        same.and_then(|()| self.sizes_held())
+            .map_err(|e| format!("{}: {e}", self.tell(&call)))?;
+        self.tally.count(&call, &answer, &before);
+        self.note(&call, &answer, pool as u64);
+        self.calls += 1;
+        Ok(answer)
+    }
+
+    // ---- what the memory should hold after a call
+
+    fn expect(&mut self, call: &Call, answer: &plain::Answer) {
+        match (&call.ask, answer) {
+            (_, plain::Answer::Refused(..)) => {}
+            (Ask::Start(sizes), _) => {
+                self.memory.expect_zeros(INDEX, sizes.needed()[INDEX]);
+                self.memory.expect_zeros(COUNT, sizes.places());
+            }
+            (Ask::Mark(space, page) | Ask::Drop(space, page), _) => {
+                self.expect_index(self.machine.sizes().place(*space, *page));
+            }
+            (Ask::Touch(space, page) | Ask::Release(space, page), _) => {
+                self.expect_counts(*space, *page..page + 1);
+            }
+            (Ask::Read(_, _, count), plain::Answer::Bytes(bytes)) => {
+                self.memory.expect_own(READ, *count, bytes);
+            }
+            (Ask::Write(space, address, bytes), _) => {
+                self.expect_write(*space, *address, bytes.len() as u64)
+            }
+            (Ask::List(_, room), plain::Answer::Regions(regions)) => {
+                self.expect_records(*room, regions)
+            }
+            _ => {}
+        }
+    }
+
+    // "each layer above has one bit for each word below, set when that word isn't 0": the word of
+    // each layer that a place is in.
+    fn expect_index(&mut self, place: u64) {
+        let starts = self.machine.starts();
+        let (mut before, mut bits, mut unit) = (0, self.machine.sizes().places(), 1);
+        loop {
+            let k = place / (64 * unit);
+            let mut word = 0u64;
+            let mut from = 64 * unit * k;
+            while let Some(start) = starts.range(from..64 * unit * (k + 1)).next() {
+                word |= 1 << (start / unit % 64);
+                from = (start / unit + 1) * unit;
+            }
+            self.memory.expect(INDEX, before + k, word);
+            let words = bits.div_ceil(64);
+            if words == 1 {
+                return;
+            }
+            (before, bits, unit) = (before + words, words, 64 * unit);
+        }
+    }
+
+    // The resident counts of the regions of some pages.
+    fn expect_counts(&mut self, space: u64, pages: std::ops::Range<u64>) {
+        let mut last = None;
+        for page in pages {
+            let start = self.machine.region(self.machine.sizes().place(space, page));
+            if let (Some(start), true) = (start, start != last) {
+                let many = self.machine.list_of(start).len() as u64;
+                self.memory.expect(COUNT, start, many);
+            }
+            last = start;
+        }
+    }
+
+    fn expect_write(&mut self, space: u64, address: u64, count: u64) {
+        let span = self.machine.sizes().span(address, count);
+        self.expect_counts(space, span);
+        for part in self.machine.parts(space, address, count).unwrap() {
+            self.memory.expect_ram(part);
+        }
+    }
+
+    // "Records after the last stay unchanged"
+    fn expect_records(&mut self, room: u64, regions: &[plain::Region]) {
+        let numbers = regions.iter().flat_map(|r| [r.start, r.length, r.resident]);
+        let bytes: Vec<u8> = numbers.flat_map(|n| (n as u32).to_le_bytes()).collect();
+        self.memory
+            .expect_own(RECORDS, self.memory.own_records(room), &bytes);
+    }
+
+    // "What a call may change", in the words that the program chooses.
+    fn allowed(&mut self, call: &Call, answer: &Answer, new: usize) -> Allowed {
+        let mut words = [0; PARTS];
+        // page table, helper, stack, region cache, frame link
+        let chosen = 2..=LINK;
+        match (&call.ask, answer.kind) {
+            (_, 1..=11) => {}
+            (Ask::Start(_), _) => words[HEAD] = 7,
+            // "One word in each of the six tables"
+            (Ask::Touch(..), entrance::NEW) => {
+                words[HEAD] = 7;
+                words[chosen].fill(1);
+            }
+            // "two table words (a resident count, a frame link)"
+            (Ask::Release(..), _) => {
+                words[HEAD] = 7;
+                words[LINK] = 1;
+            }
+            // "the touches' words and the span's bytes"; an empty span "does nothing"
+            (Ask::Write(_, _, bytes), _) if !bytes.is_empty() => {
+                words[HEAD] = 7;
+                words[chosen].fill(new);
+            }
+            _ => {}
+        }
+        let mut needed = [0; PARTS];
+        for (b, entries) in self.machine.sizes().needed().into_iter().enumerate() {
+            needed[b] = entries as usize;
+        }
+        needed[HEAD] = 7;
+        Allowed { words, needed }
+    }
+
+    fn sizes_held(&self) -> Result<(), String> {
+        let (head, sizes) = (self.memory.head(), self.machine.sizes());
+        let numbers = |s: Sizes| [s.spaces, s.pages, s.frames, s.page];
+        match sizes.spaces == 0 && head.spaces == 0 || numbers(head.sizes()) == numbers(sizes) {
+            true => Ok(()),
+            false => Err(format!("the head is {head:?}")),
+        }
+    }
+
+    // All of the memory, with the whole index and every resident count by their rules.
+    pub fn compare_all(&mut self) -> Result<(), String> {
+        let sizes = self.machine.sizes();
+        let starts: Vec<u64> = self.machine.starts().iter().copied().collect();
+        if sizes.spaces > 0 {
+            for (k, word) in index_of(&sizes, &starts).into_iter().enumerate() {
+                self.memory.expect(INDEX, k as u64, word);
+            }
+            self.memory.expect_zeros(COUNT, sizes.places());
+            for (start, list) in self.machine.lists() {
+                self.memory.expect(COUNT, *start, list.len() as u64);
+            }
+        }
+        let same = self.memory.compare_all(self.machine.ram());
+        same.map_err(|e| {
+            format!(
+                "honest seed {}, after call {}: {e}",
+                self.plan.seed, self.calls
+            )
+        })
+    }
+}
