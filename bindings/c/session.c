@@ -2,24 +2,42 @@
  * Document 01's session through the C entrance: each call's answer on a line of its own, as the session program writes it.
  * Build: bindings/build
  */
-#include "corwystal.h"
+#include "corwystal_board.h"
 
 #include <inttypes.h>
 #include <stdio.h>
 
 enum { SPACES = 1, PAGES = 8, FRAMES = 3, PAGE = 256, PLACES = SPACES * PAGES };
 
-/* All that the pager works on. Only `head` must be zero; the rest may hold anything. */
-static corwystal_head head;
+/* All that the pager works on. Only the head must be zero; the rest may hold anything. */
 static uint64_t index_words[CORWYSTAL_INDEX_WORDS(PLACES)];
 static uint32_t count[PLACES], table[PLACES], helper[PLACES], stack[PLACES], cache[PLACES], frame_link[FRAMES];
+static uint8_t ram[FRAMES * PAGE];
 
-#define LENT(buffer) (buffer), sizeof(buffer) / sizeof((buffer)[0])
+static corwystal_board board = {{0},
+                                CORWYSTAL_LENT(index_words),
+                                CORWYSTAL_LENT(count),
+                                CORWYSTAL_LENT(table),
+                                CORWYSTAL_LENT(helper),
+                                CORWYSTAL_LENT(stack),
+                                CORWYSTAL_LENT(cache),
+                                CORWYSTAL_LENT(frame_link),
+                                CORWYSTAL_LENT(ram)};
 
 static void say(corwystal_answer a) {
     switch (a.kind) {
     case CORWYSTAL_DONE:
         puts("ok");
+        break;
+    case CORWYSTAL_OLD:
+    case CORWYSTAL_NEW:
+        printf("frame %" PRIu64 " %s %" PRIu32 "\n", a.value, a.kind == CORWYSTAL_NEW ? "new" : "old", a.words);
+        break;
+    case CORWYSTAL_RESIDENT:
+        printf("resident %" PRIu64 " %" PRIu32 "\n", a.value, a.words);
+        break;
+    case CORWYSTAL_ABSENT:
+        printf("absent %" PRIu32 "\n", a.words);
         break;
     case CORWYSTAL_PAGES:
         printf("pages %" PRIu64 "\n", a.value);
@@ -29,36 +47,24 @@ static void say(corwystal_answer a) {
     }
 }
 
-static void mark(uint32_t page) { say(corwystal_mark(&head, 0, page, LENT(index_words), LENT(count))); }
-
-static void drop(uint32_t page) { say(corwystal_drop(&head, 0, page, LENT(index_words), LENT(count))); }
-
-static void touch(uint32_t page) {
-    corwystal_answer a = corwystal_touch(&head, 0, page, LENT(index_words), LENT(count), LENT(table), LENT(helper),
-                                         LENT(stack), LENT(cache), LENT(frame_link));
+/* A refused touch or look tells the index words too. */
+static void say_with_words(corwystal_answer a) {
     if (corwystal_refused(a))
         printf("no %" PRIu32 " %" PRIu32 "\n", a.kind, a.words);
     else
-        printf("frame %" PRIu64 " %s %" PRIu32 "\n", a.value, a.kind == CORWYSTAL_NEW ? "new" : "old", a.words);
+        say(a);
 }
 
-static void look(uint32_t page) {
-    corwystal_answer a = corwystal_look(&head, 0, page, LENT(index_words), LENT(count), LENT(table), LENT(helper),
-                                        LENT(stack), LENT(cache));
-    if (corwystal_refused(a))
-        printf("no %" PRIu32 " %" PRIu32 "\n", a.kind, a.words);
-    else if (a.kind == CORWYSTAL_RESIDENT)
-        printf("resident %" PRIu64 " %" PRIu32 "\n", a.value, a.words);
-    else
-        printf("absent %" PRIu32 "\n", a.words);
-}
+static void mark(uint32_t page) { say(corwystal_board_mark(&board, 0, page)); }
 
-static void release(uint32_t page) {
-    say(corwystal_release(&head, 0, page, LENT(index_words), LENT(count), LENT(table), LENT(stack), LENT(frame_link)));
-}
+static void touch(uint32_t page) { say_with_words(corwystal_board_touch(&board, 0, page)); }
+
+static void look(uint32_t page) { say_with_words(corwystal_board_look(&board, 0, page)); }
+
+static void release(uint32_t page) { say(corwystal_board_release(&board, 0, page)); }
 
 int main(void) {
-    say(corwystal_start(&head, SPACES, PAGES, FRAMES, PAGE, LENT(index_words), LENT(count)));
+    say(corwystal_board_start(&board, SPACES, PAGES, FRAMES, PAGE));
     mark(0);
     mark(4);
     touch(5);
@@ -71,7 +77,7 @@ int main(void) {
     look(5);
     touch(2);
     look(9);
-    drop(4);
+    say(corwystal_board_drop(&board, 0, 4));
     touch(7);
     release(0);
     mark(0);

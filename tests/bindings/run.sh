@@ -16,6 +16,9 @@ if nm -u "$library" | awk 'NF == 2 { print $2 }' | grep -vxE 'memcpy|memmove|mem
     exit 1
 fi
 
+# The headers are C++ too.
+g++ -std=c++17 -Wall -Wextra -Werror -pedantic -I bindings/c -fsyntax-only -x c++ bindings/c/corwystal_board.h
+
 for language in c rust; do
     diff <("target/bindings/session_$language") tests/session/session.out
 done
