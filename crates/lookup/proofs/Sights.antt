@@ -2,7 +2,7 @@
 use mathlib.Core.Path.{_≡_, refl, sym, ap, _∙_, subst}
 use mathlib.Core.Bool.{Bool, true, false}
 use mathlib.Core.List.{List, []}
-use Prim.Native.Nat.{ℕ, _≤_, _<_}
+use Prim.Native.Nat.{ℕ, _*_, _≤_, _<_}
 use native.Mathlib.Omega.{arith}
 use borrow.Author.Tests.{lt-leb, le-leb, ltb-true, lt-ltb}
 use lib.Dec.{leb, ltb}
@@ -11,18 +11,25 @@ use Rattle.places.specs.Places.{size}
 use Rattle.index.specs.Answers.{foundSays, check, placesOk}
 use Rattle.index.specs.declared.Found as found
 use Rattle.index.specs.declared.Found.the-variants as found-is
-use Rattle.machine.specs.Machine.{places, placeOf, sizesOk, look, Answer, refused}
+use Rattle.machine.specs.Machine.{Sizes, places, placeOf, sizesOk, Uses, look, asked, Answer, refused}
 use Rattle.machine.specs.Laws.Sizes.{fit, some-places, place-below}
-use Rattle.memory.specs.Memory.{Memory, memory, at, sizesOf}
+use Rattle.memory.specs.Memory.{Memory, memory, at, sizesOf, lengths}
 use Rattle.memory.specs.declared.Head.{Head}
 use Rattle.memory.specs.declared.Sight.{Sight}
 use Rattle.memory.specs.declared.Sight.the-variants.{Unmapped, Outside, Broken}
-use Rattle.laws.specs.Models.{residentOk, sightMapped, sightFound, Searched, Seen, lookLengths, pageInside, checkOf, lookSays}
-use Rattle.promise.specs.Did.{Did}
+use Rattle.laws.specs.Models.{residentOk, sightMapped, sightFound, Searched, Seen, everything, lookLengths, checkOf, lookSays}
+use Rattle.promise.specs.Did.{Words, Tables, Did}
+use Rattle.laws.specs.Refusals.{Long}
+use Rattle.laws.specs.Passing.{look-passes}
+use Rattle.laws.specs.Checks.{look-check}
 use Rattle.laws.specs.Checking.{checked-no, checked-yes}
 use Rattle.laws.specs.Checking as checking
 use Rattle.laws.specs.Looking.{look-did}
-use Rattle.lookup.specs.Ready.{Tabled, Ready, SeenOf}
+use Rattle.lookup.specs.Ready.{Tabled, Ready, Lookable, SeenOf}
+
+-- a buffer that a call isn't lent
+pub not-lent : {A : Type 0} → false ≡ true → A
+not-lent e = absurd (let z : _≡_ {A = ℕ} 0 1 = cc in omega arith)
 
 -- ---- the index's answer
 
@@ -80,35 +87,84 @@ module _ (h : Head) (i b : ℕ) (index count table helper stack cache : List ℕ
 
 -- ---- look
 
-pub look-ready : (h : Head) (i b : ℕ) (index count table helper stack cache link ram : List ℕ)
-    → (let k = memory h index count table helper stack cache link ram in checkOf h (lookLengths k) i (pageInside k b) ≡ 0) → Ready h i b index count table helper stack cache
-look-ready h i b index count table helper stack cache link ram e =
-    let k = memory h index count table helper stack cache link ram in
-    let y = checking.ready h (lookLengths k) i (pageInside k b) e in
+-- the checks of a call that is lent these tables passed: every page of its space can be looked up
+pub lookable : (h : Head) (i : ℕ) (index count table helper stack cache : List ℕ) (link ram : ℕ) → sizesOk (sizesOf h) ≡ true → i < h .spaces
+    → Long everything (sizesOf h)
+    (record { index = length index; count = length count; table = length table; helper = length helper; stack = length stack; cache = length cache; link = link; ram = ram })
+    → Lookable h i index count table helper stack cache
+lookable h i index count table helper stack cache link ram ok space lent b page =
     record {
-      sizes-ok = y .sizes-ok;
-      space = y .space;
-      page = ltb-true b (h .pages) (y .is-inside);
-      index-long = y .lent .index refl;
-      count-long = y .lent .count refl;
-      table-long = y .lent .table refl;
-      helper-long = y .lent .helper refl;
-      stack-long = y .lent .stack refl;
-      cache-long = y .lent .cache refl;
+      sizes-ok = ok;
+      space = space;
+      page = page;
+      index-long = lent .index refl;
+      count-long = lent .count refl;
+      table-long = lent .table refl;
+      helper-long = lent .helper refl;
+      stack-long = lent .stack refl;
+      cache-long = lent .cache refl;
     }
 
-module _ (h : Head) (i b : ℕ) (index count table helper stack cache : List ℕ) (no : ℕ)
-    (checked : no ≡ checkOf h (lookLengths (memory h index count table helper stack cache [] [])) i (ltb b (h .pages))) where
+-- a call that changes words of tables, and neither sizes nor lengths, keeps it so
+pub still-lookable : {z : Sizes} {x c t e s a l : ℕ} {k k′ : Memory} → Tables z x c t e s a l k k′ → (i : ℕ)
+    → Lookable (k .head) i (k .index) (k .count) (k .table) (k .helper) (k .stack) (k .cache) → Lookable (k′ .head) i (k′ .index) (k′ .count) (k′ .table) (k′ .helper) (k′ .stack) (k′ .cache)
+still-lookable {k = k} {k′ = k′} t i before b page =
+    let back = sym (t .sizes) in
+    let y = before b (subst (λ (z : Sizes). b < z .pages) (t .sizes) page) in
+    record {
+      sizes-ok = subst (λ (z : Sizes). sizesOk z ≡ true) back (y .sizes-ok);
+      space = subst (λ (z : Sizes). i < z .spaces) back (y .space);
+      page = page;
+      index-long = long (λ z. size (places z)) (t .index) (y .index-long);
+      count-long = long places (t .count) (y .count-long);
+      table-long = long places (t .table) (y .table-long);
+      helper-long = long places (t .helper) (y .helper-long);
+      stack-long = long places (t .stack) (y .stack-long);
+      cache-long = long places (t .cache) (y .cache-long);
+    }
+  where
+    long : (need : Sizes → ℕ) {d n : ℕ} {ws ws′ : List ℕ} → Words d n ws ws′ → need (sizesOf (k .head)) ≤ length ws → need (sizesOf (k′ .head)) ≤ length ws′
+    long need w l = omega (arith, ap need (t .sizes), w .few .size, l)
+
+module _ (h : Head) (i b : ℕ) (index count table helper stack cache : List ℕ) where
+  pub look-ready : {no : ℕ} → no ≡ checkOf h (lookLengths (memory h index count table helper stack cache [] [])) i (ltb b (h .pages)) → no ≡ 0
+      → Ready h i b index count table helper stack cache
+  look-ready checked pass =
+      let y = checking.ready h _ i _ (sym checked ∙ pass) in
+      lookable h i index count table helper stack cache _ _ (y .sizes-ok) (y .space) (y .lent) b (ltb-true b (h .pages) (y .is-inside))
+
   -- look's promise, whatever link and RAM are
   abbrev DidLook : Answer → Type 0
   DidLook a =
       (link ram : List ℕ)
       → (let k = memory h index count table helper stack cache link ram in Did (look i b) k a k)
 
-  pub look-refused : (no ≡ 0 → ⊥) → DidLook (refused no 0)
-  look-refused fails link ram = let k = memory h index count table helper stack cache link ram in look-did i b k _ k (checked-no _ no _ k k _ checked fails refl refl)
+  pub look-refused : {no : ℕ} → no ≡ checkOf h (lookLengths (memory h index count table helper stack cache [] [])) i (ltb b (h .pages)) → (no ≡ 0 → ⊥)
+      → DidLook (refused no 0)
+  look-refused checked fails link ram = let k = memory h index count table helper stack cache link ram in look-did i b k _ k (checked-no _ _ _ k k _ checked fails refl refl)
 
-  pub look-found : no ≡ 0 → (s : Sight) (a : Answer) → SeenOf h i b index count table helper stack cache s → a ≡ lookSays s → DidLook a
-  look-found pass s a seen says link ram =
+  -- a page that can be looked up
+  module _ (y : Ready h i b index count table helper stack cache) (link ram : List ℕ) where
+    -- the tables are long enough for every call that asks for these and, it may be, for link and RAM
+    pub ready-long : (u : Uses) → (u .link ≡ true → h .frames ≤ length link) → (u .ram ≡ true → sizesOf h .frames * sizesOf h .page ≤ length ram)
+        → Long u (sizesOf h) (lengths (memory h index count table helper stack cache link ram))
+    ready-long u link-long ram-long =
+        record {
+          index = λ _. y .index-long;
+          count = λ _. y .count-long;
+          table = λ _. y .table-long;
+          helper = λ _. y .helper-long;
+          stack = λ _. y .stack-long;
+          cache = λ _. y .cache-long;
+          link = link-long;
+          ram = ram-long;
+        }
+
+    pub look-asked : asked (sizesOf h) (look i b (lengths (memory h index count table helper stack cache link ram))) ≡ 0
+    look-asked = look-passes (sizesOf h) i b _ (y .sizes-ok) (y .space) (y .page) (ready-long _ not-lent not-lent)
+
+  pub look-found : Ready h i b index count table helper stack cache → (s : Sight) (a : Answer) → SeenOf h i b index count table helper stack cache s → a ≡ lookSays s → DidLook a
+  look-found y s a seen says link ram =
       let k = memory h index count table helper stack cache link ram in
-      look-did i b k a k (checked-yes _ no _ k k a checked pass (record { sight = s; seen = seen; answer-is = says; same = refl }))
+      look-did i b k a k
+      (checked-yes _ 0 _ k k a (sym (look-check k i b ∙ look-asked y link ram)) refl (record { sight = s; seen = seen; answer-is = says; same = refl }))

@@ -31,6 +31,10 @@ pub record Ready (h : Head) (i b : ℕ) (index count table helper stack cache : 
   pub stack-long : places (sizesOf h) ≤ length stack
   pub cache-long : places (sizesOf h) ≤ length cache
 
+-- every page of space i can be looked up
+abbrev pub Lookable : Head → ℕ → List ℕ → List ℕ → List ℕ → List ℕ → List ℕ → List ℕ → Type 0
+Lookable h i index count table helper stack cache = (b : ℕ) → b < h .pages → Ready h i b index count table helper stack cache
+
 -- what is seen of page b of space i
 abbrev pub SeenOf : Head → ℕ → ℕ → List ℕ → List ℕ → List ℕ → List ℕ → List ℕ → List ℕ → Sight → Type 0
 SeenOf h i b index count table helper stack cache r =

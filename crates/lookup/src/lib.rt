@@ -105,6 +105,28 @@ fn looked(s: Sight) -> Looked
     }
 }
 
+// The look of a call that passed the checks: read and write check once and look up many pages.
+pub fn look_checked(
+    head: Head,
+    space: u32,
+    page: u32,
+    index: &[u64],
+    count: &[u32],
+    table: &[u32],
+    helper: &[u32],
+    stack: &[u32],
+    cache: &[u32],
+) -> Looked
+    requires { ⌜ Ready head space page (now index) (now count) (now table) (now helper) (now stack) (now cache) ⌝ }
+    ensures { λ r. ⌜ ((link ram : List ℕ) →
+        Did (machine.look space page)
+        (memory head (now (index .entry)) (now (count .entry)) (now (table .entry)) (now (helper .entry)) (now (stack .entry)) (now (cache .entry)) link ram)
+        (lookedSays r)
+        (memory head (now (index .entry)) (now (count .entry)) (now (table .entry)) (now (helper .entry)) (now (stack .entry)) (now (cache .entry)) link ram)) ⌝ }
+{
+    looked(see(head, space, page, index, count, table, helper, stack, cache))
+}
+
 // Whether a page is resident, and its frame. Changes nothing.
 pub fn look(
     head: Head,
@@ -137,5 +159,5 @@ pub fn look(
     if no != 0 {
         return Looked::Refused(no, 0);
     }
-    looked(see(head, space, page, index, count, table, helper, stack, cache))
+    look_checked(head, space, page, index, count, table, helper, stack, cache)
 }

@@ -34,7 +34,7 @@ module _ (h : Head) (l : Lengths) (i x : ℕ) (r : ℕ) (checked : r ≡ checkOf
       (ltb-true x (spaceBytes (sizesOf h)) (both (sizesOk (sizesOf h)) _ (address-ready .is-inside) .1))
 
 module _ (h : Head) (l : Lengths) (i x n : ℕ) (r : ℕ) (checked : r ≡ checkOf h l i (spanInside h x n)) (passed : r ≡ 0) where
-  span-ready : Ready h l i (spanInside h x n)
+  pub span-ready : Ready h l i (spanInside h x n)
   span-ready = ready h l i (spanInside h x n) (sym checked ∙ passed)
 
   span-ends : x + n ≤ spaceBytes (sizesOf h)

@@ -1,10 +1,10 @@
-// Reading bytes through the pager: translate and read. Pages are looked up by look's own promise, and a
-// page's part of the RAM is copied at once.
+// Reading bytes through the pager: translate and read. The checks are made once, then pages are looked up by
+// look's own promise, and a page's part of the RAM is copied at once.
 use checks::address_inside;
 use checks::check;
 use checks::span_inside;
 use copying::copy;
-use lookup::look;
+use lookup::look_checked;
 use machine::Copied;
 use machine::Looked;
 use machine::Translated;
@@ -24,6 +24,7 @@ ghost use Rattle.memory.specs.Memory.{memory};
 ghost use Rattle.promise.specs.Did.{Did};
 ghost use Rattle.promise.specs.Filled.{ReadDid};
 ghost use Rattle.laws.specs.Parts.{CopiedOut};
+ghost use Rattle.lookup.specs.Ready.{Lookable};
 ghost use Rattle.spans.specs.Parts.{Span, Part};
 
 // The place in RAM of an address.
@@ -59,7 +60,7 @@ pub fn translate(
         return Translated::Refused(no);
     }
     let page = page_of(head, address);
-    let found = look(
+    let found = look_checked(
         head,
         space,
         page as u32,
@@ -90,14 +91,14 @@ fn read_part(
     cache: &[u32],
     ram: &[u8],
 )
-    requires { ⌜ Part head space x (length (now dst)) (now ram) ⌝ }
+    requires { ⌜ Part head space x (length (now dst)) (now ram) × Lookable head space (now index) (now count) (now table) (now helper) (now stack) (now cache) ⌝ }
     ensures { λ _. ⌜ ((link : List ℕ) →
         CopiedOut
         (memory head (now (index .entry)) (now (count .entry)) (now (table .entry)) (now (helper .entry)) (now (stack .entry)) (now (cache .entry)) link (now (ram .entry)))
         space x (length (now (dst .entry))) (now (dst .exit))) ⌝ }
 {
     let page = page_of(head, x);
-    let found = look(
+    let found = look_checked(
         head,
         space,
         page as u32,
@@ -133,7 +134,7 @@ fn copy_out(
     cache: &[u32],
     ram: &[u8],
 )
-    requires { ⌜ Span head space address (length (now buffer)) (now ram) ⌝ }
+    requires { ⌜ Span head space address (length (now buffer)) (now ram) × Lookable head space (now index) (now count) (now table) (now helper) (now stack) (now cache) ⌝ }
     ensures { λ _. ⌜ ((link : List ℕ) →
         CopiedOut
         (memory head (now (index .entry)) (now (count .entry)) (now (table .entry)) (now (helper .entry)) (now (stack .entry)) (now (cache .entry)) link (now (ram .entry)))
@@ -198,7 +199,7 @@ pub fn read(
     let mut page = page_of(head, address);
     let end = page + spans::pages(head, address, n);
     while page < end {
-        let found = look(
+        let found = look_checked(
             head,
             space,
             page as u32,

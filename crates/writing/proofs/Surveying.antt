@@ -19,10 +19,10 @@ use Rattle.memory.specs.declared.Head.{Head}
 use Rattle.promise.specs.Holds.{Holds}
 use Rattle.promise.specs.Did.{Among, Later, Did}
 use Rattle.laws.specs.Refusals.{passed-step}
-use Rattle.laws.specs.Passing.{look-passes}
 use Rattle.laws.specs.Found.{Found, looked-later, page-found}
 use Rattle.laws.specs.Writing.{writeRefusal}
 use Rattle.lookup.specs.Ready.{Ready}
+use Rattle.lookup.proofs.Sights.{look-asked}
 use Rattle.spans.specs.Spans.{absenceOf}
 use Rattle.writing.specs.Surveys.{TallyIs, Surveyed, settledBy, Settled}
 use Rattle.writing.specs.declared.Tally.{Tally}
@@ -111,20 +111,7 @@ module _ (h : Head) (i first end : ℕ) (index count table helper stack cache : 
   module _ {page no : ℕ} (look-of : LookedUp page no) where
     late : Later (look i page (lengths (lent [] []))) (lookedSays (look-of .found))
     late =
-        let y = look-of .ready in
-        looked-later i page (lent [] []) _
-        (look-passes (sizesOf h) i page (lengths (lent [] [])) (y .sizes-ok) (y .space) (y .page)
-        (record {
-          index = λ _. y .index-long;
-          count = λ _. y .count-long;
-          table = λ _. y .table-long;
-          helper = λ _. y .helper-long;
-          stack = λ _. y .stack-long;
-          cache = λ _. y .cache-long;
-          link = λ e. absurd (let z : _≡_ {A = ℕ} 0 1 = cc in omega arith);
-          ram = λ e. absurd (let z : _≡_ {A = ℕ} 0 1 = cc in omega arith);
-        }))
-        (look-of .looks [] [])
+        looked-later i page (lent [] []) _ (look-asked h i page index count table helper stack cache (look-of .ready) [] []) (look-of .looks [] [])
 
     told : (link ram : List ℕ) (m : State) → Holds m (lent link ram) → no ≡ absence (pageOf m (placeOf (m .sizes) i page))
     told link ram m H =

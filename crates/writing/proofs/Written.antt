@@ -17,8 +17,10 @@ use Rattle.laws.specs.Spans.{spanInside, writeLengths, AllTouched}
 use Rattle.laws.specs.SpanChecks.{write-check}
 use Rattle.laws.specs.Touches.{all-tables}
 use Rattle.laws.specs.Writing.{Admitted, write-admitted, span-pages-inside, writeRefusal, refusalOf, write-refused, write-done, withBytes}
+use Rattle.lookup.specs.Ready.{Lookable}
+use Rattle.lookup.proofs.Sights.{lookable, still-lookable}
 use Rattle.spans.specs.Parts.{Span}
-use Rattle.writing.specs.Surveys.{Lookable, Surveyed, Settled}
+use Rattle.writing.specs.Surveys.{Surveyed, Settled}
 use Rattle.writing.specs.Stores.{Stored}
 use Rattle.writing.specs.declared.Tally.{Tally}
 use Rattle.writing.proofs.Surveying.{settles}
@@ -46,26 +48,14 @@ module _ {k : Memory} {i x : ℕ} {vs : List ℕ} {first pages : ℕ} (s : Spann
   pub admitted : Admitted (sizesOf (k .head)) i x vs (lengths k)
   admitted = write-admitted (sizesOf (k .head)) i x vs (lengths k) (s .passes)
 
-  end-inside : first + pages ≤ k .head .pages
+  pub end-inside : first + pages ≤ k .head .pages
   end-inside = omega (arith, span-pages-inside z (fit z (admitted .sizes-ok)) x (length vs) (admitted .fits), s .first-is, s .pages-is)
 
   pub end-small : first + pages ≤ 262144
   end-small = omega (arith, end-inside, fit z (admitted .sizes-ok) .few-pages)
 
-  pub lookable : Lookable (k .head) i (first + pages) (k .index) (k .count) (k .table) (k .helper) (k .stack) (k .cache)
-  lookable b l =
-      let g = admitted .lent in
-      record {
-        sizes-ok = admitted .sizes-ok;
-        space = admitted .space;
-        page = omega (arith, end-inside);
-        index-long = g .index refl;
-        count-long = g .count refl;
-        table-long = g .table refl;
-        helper-long = g .helper refl;
-        stack-long = g .stack refl;
-        cache-long = g .cache refl;
-      }
+  pub span-lookable : Lookable (k .head) i (k .index) (k .count) (k .table) (k .helper) (k .stack) (k .cache)
+  span-lookable = lookable (k .head) i (k .index) (k .count) (k .table) (k .helper) (k .stack) (k .cache) _ _ (admitted .sizes-ok) (admitted .space) (admitted .lent)
 
   count-is : first + pages - first ≡ spanPages z x (length vs)
   count-is = add-sub-cancel-left first pages ∙ s .pages-is
@@ -101,6 +91,9 @@ module _ {k : Memory} {i x : ℕ} {vs : List ℕ} {first pages : ℕ} (s : Spann
           ends = subst (λ (y : Sizes). x + length vs ≤ spaceBytes y) back (admitted .fits);
           ram-long = subst (λ (y : Sizes). y .frames * y .page ≤ length (k .ram)) back (admitted .lent .ram refl);
         }
+
+    pub next-lookable : Lookable (k₁ .head) i (k₁ .index) (k₁ .count) (k₁ .table) (k₁ .helper) (k₁ .stack) (k₁ .cache)
+    next-lookable = still-lookable (all-tables touched) i span-lookable
 
     pub written : {short : ℕ} → Decided k i x vs short → short ≡ 0 → k₁ .index ≡ k .index → {ram : List ℕ}
         → Stored (k₁ .head) i x vs (k₁ .index) (k₁ .count) (k₁ .table) (k₁ .helper) (k₁ .stack) (k₁ .cache) (k .ram) ram → Did (write i x vs) k done (withBytes k₁ ram)

@@ -2,7 +2,7 @@
 use mathlib.Core.Path.{_≡_}
 use mathlib.Core.Bool.{true, false, cond}
 use mathlib.Core.List.{List, [], _∷_}
-use Prim.Native.Nat.{ℕ, _-_, _≤_, _<_}
+use Prim.Native.Nat.{ℕ, _-_}
 use lib.Dec.{ltb}
 use lib.ListN.{length}
 use Rattle.machine.specs.Machine.{State, placeOf, anyOutside, countAbsent}
@@ -10,13 +10,8 @@ use Rattle.memory.specs.Memory.{memory}
 use Rattle.memory.specs.declared.Head.{Head}
 use Rattle.promise.specs.Holds.{Holds}
 use Rattle.promise.specs.Did.{Among}
-use Rattle.lookup.specs.Ready.{Ready}
 use Rattle.writing.specs.declared.Tally as tally
 use Rattle.writing.specs.declared.Tally.the-variants as tally-is
-
--- every page of space i before `end` can be looked up
-abbrev pub Lookable : Head → ℕ → ℕ → List ℕ → List ℕ → List ℕ → List ℕ → List ℕ → List ℕ → Type 0
-Lookable h i end index count table helper stack cache = (b : ℕ) → b < end → Ready h i b index count table helper stack cache
 
 -- the number of a look
 abbrev pub Late : tally.Tally → Type 0

@@ -3,7 +3,7 @@
 use checks::check;
 use checks::span_inside;
 use copying::copy;
-use lookup::look;
+use lookup::look_checked;
 use machine::Done;
 use machine::Free;
 use machine::Looked;
@@ -26,8 +26,9 @@ ghost use Rattle.machine.specs.Answers.{doneSays};
 ghost use Rattle.memory.specs.Memory.{memory, sizesOf};
 ghost use Rattle.promise.specs.Did.{Did};
 ghost use Rattle.laws.specs.Spans.{AllTouched};
+ghost use Rattle.lookup.specs.Ready.{Lookable};
 ghost use Rattle.spans.specs.Parts.{Span, Part};
-ghost use Rattle.writing.specs.Surveys.{Lookable, Surveyed, Settled};
+ghost use Rattle.writing.specs.Surveys.{Surveyed, Settled};
 ghost use Rattle.writing.specs.Stores.{Stored};
 
 // How many pages of a span are absent, or the refusal of one that has no region.
@@ -49,13 +50,13 @@ fn survey(
     stack: &[u32],
     cache: &[u32],
 ) -> Tally
-    requires { ⌜ (first ≤ end) × Lookable head space end (now index) (now count) (now table) (now helper) (now stack) (now cache) ⌝ }
+    requires { ⌜ (first ≤ end) × (end ≤ head .pages) × Lookable head space (now index) (now count) (now table) (now helper) (now stack) (now cache) ⌝ }
     ensures { λ r. ⌜ Surveyed head space first end (now (index .entry)) (now (count .entry)) (now (table .entry)) (now (helper .entry)) (now (stack .entry)) (now (cache .entry)) r ⌝ }
 {
     let mut absent = 0;
     let mut page = first;
     while page < end {
-        let no = absence(look(
+        let no = absence(look_checked(
             head,
             space,
             page as u32,
@@ -152,11 +153,11 @@ fn write_part(
     cache: &[u32],
     ram: &mut [u8],
 )
-    requires { ⌜ Part head space x (length (now src)) (now ram) ⌝ }
+    requires { ⌜ Part head space x (length (now src)) (now ram) × Lookable head space (now index) (now count) (now table) (now helper) (now stack) (now cache) ⌝ }
     ensures { λ _. ⌜ Stored head space x (now (src .entry)) (now (index .entry)) (now (count .entry)) (now (table .entry)) (now (helper .entry)) (now (stack .entry)) (now (cache .entry)) (now (ram .entry)) (now (ram .exit)) ⌝ }
 {
     let page = page_of(head, x);
-    let found = look(
+    let found = look_checked(
         head,
         space,
         page as u32,
@@ -192,7 +193,7 @@ fn store(
     cache: &[u32],
     ram: &mut [u8],
 )
-    requires { ⌜ Span head space address (length (now bytes)) (now ram) ⌝ }
+    requires { ⌜ Span head space address (length (now bytes)) (now ram) × Lookable head space (now index) (now count) (now table) (now helper) (now stack) (now cache) ⌝ }
     ensures { λ _. ⌜ Stored head space address (now (bytes .entry)) (now (index .entry)) (now (count .entry)) (now (table .entry)) (now (helper .entry)) (now (stack .entry)) (now (cache .entry)) (now (ram .entry)) (now (ram .exit)) ⌝ }
 {
     let n = bytes.len();

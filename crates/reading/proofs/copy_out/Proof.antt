@@ -27,22 +27,22 @@ module _ (c : tie.After-part Inv-loop μ-loop) where
   s = entry (c .before .before)
 
   some : 0 < c .part .result
-  some = next-some _ _ _ _ _ (s .pre) _ _ (c .before .loop-test .taken) (c .part .ensures)
+  some = next-some _ _ _ _ _ (s .pre .0) _ _ (c .before .loop-test .taken) (c .part .ensures)
 
   within : c .before .before .loop .done + c .part .result ≤ length (s .args .buffer .now)
-  within = next-within _ _ _ _ _ (s .pre) _ _ (c .before .loop-test .taken) (c .part .ensures)
+  within = next-within _ _ _ _ _ (s .pre .0) _ _ (c .before .loop-test .taken) (c .part .ensures)
 
 loop-holds : tie.Need-loop-holds Inv-loop μ-loop
 loop-holds c = copying-none _ _ _ _ _ refl
 
 add-x : tie.Need-add-x Inv-loop μ-loop
-add-x c = let s = entry (c .before) in omega (arith, space-small (s .args .head) (s .pre .sizes-ok), s .pre .ends)
+add-x c = let s = entry (c .before) in omega (arith, space-small (s .args .head) (s .pre .0 .sizes-ok), s .pre .0 .ends)
 
 sub-part : tie.Need-sub-part Inv-loop μ-loop
 sub-part c = c .before .loop .inv .within
 
 part-requires : tie.Need-part-requires Inv-loop μ-loop
-part-requires c κs = entry (c .before) .pre .sizes-ok
+part-requires c κs = entry (c .before) .pre .0 .sizes-ok
 
 add-next : tie.Need-add-next Inv-loop μ-loop
 add-next c = omega (arith, within c)
@@ -59,7 +59,8 @@ part-read-part-end c = omega (arith, within c, c .before .before .loop .inv .lon
 read-part-requires : tie.Need-read-part-requires Inv-loop μ-loop
 read-part-requires c κs =
     let p = c .before in
-    next-part _ _ _ _ _ (entry (p .before .before) .pre) _ _ (p .before .loop-test .taken) (p .part .ensures) _ (p .before .before .loop .inv .long)
+    let s = entry (p .before .before) in
+    (next-part _ _ _ _ _ (s .pre .0) _ _ (p .before .loop-test .taken) (p .part .ensures) _ (p .before .before .loop .inv .long), s .pre .1)
 
 loop-less : tie.Need-loop-less Inv-loop μ-loop
 loop-less c = omega (arith, some (c .before .before .before .before), within (c .before .before .before .before))

@@ -8,8 +8,10 @@ use Rattle.memory.specs.Memory.{Memory, memory}
 use Rattle.laws.specs.Models.{checkOf}
 use Rattle.laws.specs.Spans.{spanInside, readLengths}
 use Rattle.laws.specs.Reading.{read-early, read-stopped, read-copied}
+use Rattle.lookup.specs.Ready.{Lookable}
+use Rattle.lookup.proofs.Sights.{lookable}
 use Rattle.spans.proofs.Absent.{refused-as}
-use Rattle.reading.proofs.Checked.{page-fits, span-is, pages-low, next-page}
+use Rattle.reading.proofs.Checked.{page-fits, span-ready, span-is, pages-low, next-page}
 use Rattle.reading.proofs.Looking.{Looking, looking-none, looking-more}
 use Rattle.spans.specs.Parts.{Span}
 use borrow.Author.Needs.{needs}
@@ -39,6 +41,13 @@ checked c link = c .check .ensures ∙ ap (checkOf _ _ _) (c .before .span-insid
 
 span : (c : tie.Else1 Inv-loop μ-loop) → let a = entry (c .before) .args in Span (a .head) (a .space) (a .address) (length (a .buffer .now)) (a .ram .now)
 span c = span-is _ _ _ _ _ _ (checked (c .before) []) (c .if1 .left) _ refl
+
+pages : (c : tie.Else1 Inv-loop μ-loop)
+    → let a = entry (c .before) .args in
+    Lookable (a .head) (a .space) (a .index .now) (a .count .now) (a .table .now) (a .helper .now) (a .stack .now) (a .cache .now)
+pages c =
+    let y = span-ready _ _ _ _ _ _ (checked (c .before) []) (c .if1 .left) in
+    lookable _ _ _ _ _ _ _ _ _ _ (y .sizes-ok) (y .space) (y .lent)
 
 -- from the loop back to the check that passed
 abbrev passed : tie.At-loop Inv-loop μ-loop → tie.Else1 Inv-loop μ-loop
@@ -78,11 +87,11 @@ add-end c =
 loop-holds : tie.Need-loop-holds Inv-loop μ-loop
 loop-holds c = looking-none _ _ _ _
 
-cast-look : tie.Need-cast-look Inv-loop μ-loop
-cast-look c = omega (arith, small c)
+cast-look-checked : tie.Need-cast-look-checked Inv-loop μ-loop
+cast-look-checked c = omega (arith, small c)
 
-look-requires : tie.Need-look-requires Inv-loop μ-loop
-look-requires c κs = search needs
+look-checked-requires : tie.Need-look-checked-requires Inv-loop μ-loop
+look-checked-requires c κs = pages (passed (c .before)) _ (inside c)
 
 enum-told : tie.Need-enum-told Inv-loop μ-loop
 enum-told c = search needs
@@ -96,8 +105,8 @@ returns-2 c = λ link.
     let o = l .before .before in
     let e = passed o in
     read-stopped _ _ (lent (entry (e .before)) link) _ _ (checked (e .before) link) (e .if1 .left) _ _ (o .before .before .page-of .ensures) (o .before .pages .ensures)
-    _ (o .loop .inv .from) (omega (arith, l .before .loop-test .taken)) (o .loop .inv .resident link) (l .look .result) (l .look .ensures link _) _
-    (refused-as (l .look .result) _ (c .absence .ensures) (c .before .match .keys2))
+    _ (o .loop .inv .from) (omega (arith, l .before .loop-test .taken)) (o .loop .inv .resident link) (l .look-checked .result) (l .look-checked .ensures link _) _
+    (refused-as (l .look-checked .result) _ (c .absence .ensures) (c .before .match .keys2))
 
 add-page : tie.Need-add-page Inv-loop μ-loop
 add-page c = omega (arith, small (c .before .before .before))
@@ -111,10 +120,10 @@ loop-again c =
     let o = l .before .before in
     let s = entry (passed o .before) in
     looking-more (lent s) _ _ _ _ (o .loop .inv) (omega (arith, l .before .loop-test .taken)) (λ link. (span (passed o) .space, inside (l .before)))
-    (l .look .result) _ (c .enum-told .given .1) (λ link. l .look .ensures link _)
+    (l .look-checked .result) _ (c .enum-told .given .1) (λ link. l .look-checked .ensures link _)
 
 copy-out-requires : tie.Need-copy-out-requires Inv-loop μ-loop
-copy-out-requires c κs = span (passed (c .before .before))
+copy-out-requires c κs = let e = passed (c .before .before) in (span e, pages e)
 
 same-length : tie.Need-same-length Inv-loop μ-loop
 same-length c = search needs
@@ -139,8 +148,8 @@ read-spec =
     pages-requires
     add-end
     loop-holds
-    cast-look
-    look-requires
+    cast-look-checked
+    look-checked-requires
     enum-told
     absence-requires
     returns-2

@@ -25,28 +25,28 @@ lent s link =
 abbrev entry : tie.After-page-of → tie.Start
 entry c = c .before .before .before .before .before .before .before .before .before
 
-looked : (c : tie.After-look) (link : List ℕ)
+looked : (c : tie.After-look-checked) (link : List ℕ)
     → let s = entry (c .before) in
-    Did (look (s .args .space) (s .args .x / sizesOf (s .args .head) .page)) (lent s link) (lookedSays (c .look .result)) (lent s link)
-looked c link = rw (← c .before .page-of .ensures) (c .look .ensures link (entry (c .before) .args .ram .now))
+    Did (look (s .args .space) (s .args .x / sizesOf (s .args .head) .page)) (lent s link) (lookedSays (c .look-checked .result)) (lent s link)
+looked c link = rw (← c .before .page-of .ensures) (c .look-checked .ensures link (entry (c .before) .args .ram .now))
 
 -- the look before the frame's place was computed
-abbrev look-of : tie.After-ram-place → tie.After-look
+abbrev look-of : tie.After-ram-place → tie.After-look-checked
 look-of c = c .before .before .before .before .before .before
 
 ends : (c : tie.After-ram-place) → let s = entry (look-of c .before) in c .ram-place .result + length (s .args .dst .now) ≤ length (s .args .ram .now)
-ends c = part-ends _ _ _ _ _ (entry (look-of c .before) .pre) _ _ (c .ram-place .ensures) (c .before .if1 .left)
+ends c = part-ends _ _ _ _ _ (entry (look-of c .before) .pre .0) _ _ (c .ram-place .ensures) (c .before .if1 .left)
 
 page-of-requires : tie.Need-page-of-requires
 page-of-requires c κs = search needs
 
-cast-look : tie.Need-cast-look
-cast-look c =
+cast-look-checked : tie.Need-cast-look-checked
+cast-look-checked c =
     let s = entry c in
-    omega (arith, c .page-of .ensures, page-fits (s .args .head) _ (s .pre .span .sizes-ok) (part-page _ _ _ _ _ (s .pre)))
+    omega (arith, c .page-of .ensures, page-fits (s .args .head) _ (s .pre .0 .span .sizes-ok) (part-page _ _ _ _ _ (s .pre .0)))
 
-look-requires : tie.Need-look-requires
-look-requires c κs = search needs
+look-checked-requires : tie.Need-look-checked-requires
+look-checked-requires c κs = let s = entry c in s .pre .1 _ (omega (arith, c .page-of .ensures, part-page _ _ _ _ _ (s .pre .0)))
 
 enum-known-found : tie.Need-enum-known-found
 enum-known-found c = search needs
@@ -55,19 +55,19 @@ returns : tie.Need-returns
 returns c = λ link.
     let l = c .before in
     let s = entry (l .before) in
-    part-absent (lent s link) _ _ _ (s .pre) (l .look .result) (looked l link) _ (refused-as (l .look .result) _ refl (c .match .keys2)) _
+    part-absent (lent s link) _ _ _ (s .pre .0) (l .look-checked .result) (looked l link) _ (refused-as (l .look-checked .result) _ refl (c .match .keys2)) _
 
 returns-2 : tie.Need-returns-2
 returns-2 c = λ link.
     let l = c .before .before .before .before .before in
     let s = entry (l .before) in
-    part-beyond (lent s link) _ _ _ (s .pre) (l .look .result) (looked l link) _ (c .before .before .before .found .given .1) (c .if1 .taken) _
+    part-beyond (lent s link) _ _ _ (s .pre .0) (l .look-checked .result) (looked l link) _ (c .before .before .before .found .given .1) (c .if1 .taken) _
 
 ram-place-requires : tie.Need-ram-place-requires
 ram-place-requires c κs = search needs
 
 add-to : tie.Need-add-to
-add-to c = omega (arith, part-low _ _ _ _ _ (entry (look-of c .before) .pre) _ _ (c .ram-place .ensures) (c .before .if1 .left))
+add-to c = omega (arith, part-low _ _ _ _ _ (entry (look-of c .before) .pre .0) _ _ (c .ram-place .ensures) (c .before .if1 .left))
 
 sub-copy : tie.Need-sub-copy
 sub-copy c = search needs
@@ -82,8 +82,8 @@ copy-requires : tie.Need-copy-requires
 copy-requires c κs =
     let p = c .before .before in
     let s = entry (look-of p .before) in
-    let long = part-long _ _ _ _ _ (s .pre) _ _ (p .ram-place .ensures) (p .before .if1 .left) in
-    (omega (arith, long, part-small _ _ _ _ _ (s .pre)), omega (arith, long))
+    let long = part-long _ _ _ _ _ (s .pre .0) _ _ (p .ram-place .ensures) (p .before .if1 .left) in
+    (omega (arith, long, part-small _ _ _ _ _ (s .pre .0)), omega (arith, long))
 
 same-length : tie.Need-same-length
 same-length c = search needs
@@ -93,7 +93,7 @@ returns-3 c = λ link.
     let p = c .before .before .before .before .before in
     let l = look-of p in
     let s = entry (l .before) in
-    part-copied (lent s link) _ _ _ (s .pre) (l .look .result) (looked l link) _ (p .before .before .before .before .found .given .1) _
+    part-copied (lent s link) _ _ _ (s .pre .0) (l .look-checked .result) (looked l link) _ (p .before .before .before .before .found .given .1) _
     (p .ram-place .ensures) (p .before .if1 .left) _ _ refl (c .before .before .copy .ensures)
 
 pub read-part-spec : {M : Type 1} → statement M
@@ -101,8 +101,8 @@ read-part-spec =
     tie.close
     (tie.spec
     page-of-requires
-    cast-look
-    look-requires
+    cast-look-checked
+    look-checked-requires
     enum-known-found
     returns
     returns-2

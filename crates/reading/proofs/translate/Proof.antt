@@ -10,6 +10,7 @@ use Rattle.promise.specs.Did.{Did}
 use Rattle.laws.specs.Models.{checkOf, lookLengths}
 use Rattle.laws.specs.Spans.{addressInside}
 use Rattle.laws.specs.Translating.{translate-early, translate-refused, translate-at}
+use Rattle.lookup.proofs.Sights.{lookable}
 use Rattle.spans.proofs.Absent.{refused-as}
 use Rattle.reading.proofs.Checked.{page-fits, address-ready, address-page}
 use borrow.Author.Needs.{needs}
@@ -30,10 +31,10 @@ checked : (c : tie.After-check) (link ram : List ℕ)
     ≡ checkOf (entry c .args .head) (lookLengths (lent (entry c) link ram)) (entry c .args .space) (addressInside (entry c .args .head) (entry c .args .address))
 checked c link ram = c .check .ensures ∙ ap (checkOf _ _ _) (c .before .address-inside .ensures)
 
-looked : (c : tie.After-look) (link ram : List ℕ)
+looked : (c : tie.After-look-checked) (link ram : List ℕ)
     → let k = lent (entry (c .before .before .before)) link ram in
-    Did (look (entry (c .before .before .before) .args .space) (entry (c .before .before .before) .args .address / sizesOf (k .head) .page)) k (lookedSays (c .look .result)) k
-looked c link ram = rw (← c .before .page-of .ensures) (c .look .ensures link ram)
+    Did (look (entry (c .before .before .before) .args .space) (entry (c .before .before .before) .args .address / sizesOf (k .head) .page)) k (lookedSays (c .look-checked .result)) k
+looked c link ram = rw (← c .before .page-of .ensures) (c .look-checked .ensures link ram)
 
 address-inside-requires : tie.Need-address-inside-requires
 address-inside-requires c κs = search needs
@@ -47,14 +48,18 @@ returns c = λ link ram. translate-early _ _ (lent (entry (c .before)) link ram)
 page-of-requires : tie.Need-page-of-requires
 page-of-requires c κs = address-ready _ _ _ _ _ (checked (c .before) [] []) (c .if1 .left) .sizes-ok
 
-cast-look : tie.Need-cast-look
-cast-look c =
+cast-look-checked : tie.Need-cast-look-checked
+cast-look-checked c =
     let e = checked (c .before .before) [] [] in
     let p = c .before .if1 .left in
     omega (arith, c .page-of .ensures, page-fits (entry (c .before .before) .args .head) _ (address-ready _ _ _ _ _ e p .sizes-ok) (address-page _ _ _ _ _ e p))
 
-look-requires : tie.Need-look-requires
-look-requires c κs = search needs
+look-checked-requires : tie.Need-look-checked-requires
+look-checked-requires c κs =
+    let e = checked (c .before .before) [] [] in
+    let p = c .before .if1 .left in
+    let y = address-ready _ _ _ _ _ e p in
+    lookable _ _ _ _ _ _ _ _ _ _ (y .sizes-ok) (y .space) (y .lent) _ (omega (arith, c .page-of .ensures, address-page _ _ _ _ _ e p))
 
 enum-known-found : tie.Need-enum-known-found
 enum-known-found c = search needs
@@ -66,8 +71,8 @@ returns-2 : tie.Need-returns-2
 returns-2 c = λ link ram.
     let l = c .before .before in
     let e = l .before .before .before in
-    translate-refused _ _ (lent (entry e) link ram) _ (checked e link ram) (l .before .before .if1 .left) (l .look .result) (looked l link ram) _
-    (refused-as (l .look .result) _ (c .absence .ensures) (c .before .match .keys2))
+    translate-refused _ _ (lent (entry e) link ram) _ (checked e link ram) (l .before .before .if1 .left) (l .look-checked .result) (looked l link ram) _
+    (refused-as (l .look-checked .result) _ (c .absence .ensures) (c .before .match .keys2))
 
 ram-place-requires : tie.Need-ram-place-requires
 ram-place-requires c κs =
@@ -78,7 +83,7 @@ returns-3 : tie.Need-returns-3
 returns-3 c = λ link ram.
     let l = c .before .before .before .before in
     let e = l .before .before .before in
-    translate-at _ _ (lent (entry e) link ram) _ (checked e link ram) (l .before .before .if1 .left) (l .look .result) (looked l link ram) _ _
+    translate-at _ _ (lent (entry e) link ram) _ (checked e link ram) (l .before .before .if1 .left) (l .look-checked .result) (looked l link ram) _ _
     (c .before .before .found .given .1) (c .ram-place .ensures)
 
 pub translate-spec : {M : Type 1} → statement M
@@ -89,8 +94,8 @@ translate-spec =
     check-requires
     returns
     page-of-requires
-    cast-look
-    look-requires
+    cast-look-checked
+    look-checked-requires
     enum-known-found
     absence-requires
     returns-2

@@ -21,10 +21,10 @@ entry c = c .before .before .before .before .before .before .before .before .bef
 
 -- the span ends far below the greatest number
 ends-low : (c : tie.In-loop Inv-loop μ-loop) → let a = entry c .args in a .address + length (a .bytes .now) ≤ 17179869184
-ends-low c = let s = entry c in omega (arith, s .pre .ends, space-small (s .args .head) (s .pre .sizes-ok))
+ends-low c = let s = entry c in omega (arith, s .pre .0 .ends, space-small (s .args .head) (s .pre .0 .sizes-ok))
 
 within : (c : tie.After-part Inv-loop μ-loop) → c .before .before .loop .done + c .part .result ≤ length (entry (c .before) .args .bytes .now)
-within c = next-within _ _ _ _ _ (entry (c .before) .pre) _ _ (c .before .loop-test .taken) (c .part .ensures)
+within c = next-within _ _ _ _ _ (entry (c .before) .pre .0) _ _ (c .before .loop-test .taken) (c .part .ensures)
 
 loop-holds : tie.Need-loop-holds Inv-loop μ-loop
 loop-holds c = storing-none _ _ _ _ _ _ _ _ _ _ _
@@ -36,7 +36,7 @@ sub-part : tie.Need-sub-part Inv-loop μ-loop
 sub-part c = omega arith
 
 part-requires : tie.Need-part-requires Inv-loop μ-loop
-part-requires c κs = entry c .pre .sizes-ok
+part-requires c κs = entry c .pre .0 .sizes-ok
 
 add-next : tie.Need-add-next Inv-loop μ-loop
 add-next c = omega (arith, within c, ends-low (c .before))
@@ -54,12 +54,13 @@ write-part-requires : tie.Need-write-part-requires Inv-loop μ-loop
 write-part-requires c κs =
     let p = c .before .before in
     let t = p .before in
-    next-part _ _ _ _ _ (storing-span _ _ _ _ _ _ _ _ _ _ _ _ _ (t .before .loop .inv) (entry t .pre)) _ _ (t .loop-test .taken) (p .part .ensures) _ refl
+    let s = entry t in
+    (next-part _ _ _ _ _ (storing-span _ _ _ _ _ _ _ _ _ _ _ _ _ (t .before .loop .inv) (s .pre .0)) _ _ (t .loop-test .taken) (p .part .ensures) _ refl, s .pre .1)
 
 loop-less : tie.Need-loop-less Inv-loop μ-loop
 loop-less c =
     let p = c .before .before .before .before .before in
-    omega (arith, next-some _ _ _ _ _ (entry (p .before) .pre) _ _ (p .before .loop-test .taken) (p .part .ensures))
+    omega (arith, next-some _ _ _ _ _ (entry (p .before) .pre .0) _ _ (p .before .loop-test .taken) (p .part .ensures))
 
 loop-again : tie.Need-loop-again Inv-loop μ-loop
 loop-again c =

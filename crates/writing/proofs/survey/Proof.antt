@@ -4,6 +4,7 @@ use native.Mathlib.Omega.{arith}
 use mathlib.Core.Logic.{⊎-elim}
 use borrow.Author.Needs.{needs}
 use Rattle.machine.specs.Laws.Sizes.{fit}
+use Rattle.lookup.specs.Ready.{Ready}
 use Rattle.writing.proofs.Surveying.{Counted, LookedUp, counted-none, counted-resident, counted-absent, counted-outside, counted-all}
 use Rattle.writing.proofs.survey.Statement.{statement}
 use Rattle.writing.proofs.survey.Tie as tie
@@ -18,11 +19,15 @@ abbrev μ-loop : tie.MeasureT-loop
 abbrev entry : tie.At-loop Inv-loop μ-loop → tie.Start Inv-loop μ-loop
 entry c = c .before .before .before .before .before .before .before
 
--- the page lies in the space, so that its number is small
+-- the page lies in the space
+page-ready : (c : tie.In-loop Inv-loop μ-loop)
+    → let a = entry (c .before) .args in
+    Ready (a .head) (a .space) (c .before .loop .page) (a .index .now) (a .count .now) (a .table .now) (a .helper .now) (a .stack .now) (a .cache .now)
+page-ready c = let s = entry (c .before) in s .pre .2 (c .before .loop .page) (omega (arith, s .pre .1, c .loop-test .taken))
+
+-- so that its number is small
 page-low : (c : tie.In-loop Inv-loop μ-loop) → c .before .loop .page < 262144
-page-low c =
-    let y = entry (c .before) .pre .1 (c .before .loop .page) (c .loop-test .taken) in
-    omega (arith, fit _ (y .sizes-ok) .few-pages, y .page)
+page-low c = let y = page-ready c in omega (arith, fit _ (y .sizes-ok) .few-pages, y .page)
 
 looked-up : (c : tie.After-absence Inv-loop μ-loop)
     → let l = c .before .before .before in
@@ -32,20 +37,20 @@ looked-up c =
     let t = c .before .before in
     record {
       in-span = t .loop-test .taken;
-      ready = entry (t .before) .pre .1 (t .before .loop .page) (t .loop-test .taken);
-      found = c .before .look .result;
-      looks = c .before .look .ensures;
+      ready = page-ready t;
+      found = c .before .look-checked .result;
+      looks = c .before .look-checked .ensures;
       no-is = c .absence .ensures;
     }
 
 loop-holds : tie.Need-loop-holds Inv-loop μ-loop
 loop-holds c = counted-none _ _ _ _ _ _ _ _ _ _ ((c .before .before .before .before .before .before .pre) .0)
 
-cast-look : tie.Need-cast-look Inv-loop μ-loop
-cast-look c = omega (arith, page-low c)
+cast-look-checked : tie.Need-cast-look-checked Inv-loop μ-loop
+cast-look-checked c = omega (arith, page-low c)
 
-look-requires : tie.Need-look-requires Inv-loop μ-loop
-look-requires c κs = search needs
+look-checked-requires : tie.Need-look-checked-requires Inv-loop μ-loop
+look-checked-requires c κs = page-ready c
 
 absence-requires : tie.Need-absence-requires Inv-loop μ-loop
 absence-requires c κs = search needs
@@ -79,8 +84,8 @@ survey-spec =
     Inv-loop
     μ-loop
     loop-holds
-    cast-look
-    look-requires
+    cast-look-checked
+    look-checked-requires
     absence-requires
     returns
     add-absent

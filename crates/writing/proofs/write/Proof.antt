@@ -6,7 +6,7 @@ use Rattle.machine.specs.Machine.{write, asked}
 use Rattle.memory.specs.Memory.{Memory, memory, sizesOf, lengths}
 use Rattle.laws.specs.Told.{early-refused}
 use Rattle.laws.specs.Writing.{write-admitted}
-use Rattle.writing.proofs.Written.{number-is, Spanned, Decided, admitted, end-small, lookable, decided, refused-short, next-span, written}
+use Rattle.writing.proofs.Written.{number-is, Spanned, Decided, admitted, end-inside, end-small, span-lookable, decided, refused-short, next-span, next-lookable, written}
 use Rattle.writing.proofs.write.Statement.{statement}
 use Rattle.writing.proofs.write.Tie as tie
 
@@ -70,7 +70,7 @@ add-end : tie.Need-add-end
 add-end c = omega (arith, end-small (span c))
 
 survey-requires : tie.Need-survey-requires
-survey-requires c κs = (omega arith, lookable (span (c .before .before .before .before .before)))
+survey-requires c κs = let s = span (c .before .before .before .before .before) in (omega arith, end-inside s, span-lookable s)
 
 settled-requires : tie.Need-settled-requires
 settled-requires c κs = admitted (span (c .before .before .before .before .before .before)) .sizes-ok
@@ -100,7 +100,8 @@ store-requires : tie.Need-store-requires
 store-requires c κs =
     let t = touched c in
     let p = paged (accepted t .before) in
-    next-span (span p) (t .touch-all .ensures (entry (checked p) .args .ram .now))
+    let all = t .touch-all .ensures (entry (checked p) .args .ram .now) in
+    (next-span (span p) all, next-lookable (span p) all)
 
 same-length-6 : tie.Need-same-length-6
 same-length-6 c = search needs

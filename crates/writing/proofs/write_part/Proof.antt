@@ -13,19 +13,19 @@ abbrev entry : tie.After-page-of → tie.Start
 entry c = c .before .before .before .before .before .before .before .before .before
 
 -- the look before the frame's place was computed
-abbrev look-of : tie.After-ram-place → tie.After-look
+abbrev look-of : tie.After-ram-place → tie.After-look-checked
 look-of c = c .before .before .before .before .before .before
 
 page-of-requires : tie.Need-page-of-requires
 page-of-requires c κs = search needs
 
-cast-look : tie.Need-cast-look
-cast-look c =
-    let pre = entry c .pre in
+cast-look-checked : tie.Need-cast-look-checked
+cast-look-checked c =
+    let pre = entry c .pre .0 in
     omega (arith, c .page-of .ensures, part-page _ _ _ _ _ pre, fit _ (pre .span .sizes-ok) .few-pages)
 
-look-requires : tie.Need-look-requires
-look-requires c κs = search needs
+look-checked-requires : tie.Need-look-checked-requires
+look-checked-requires c κs = let s = entry c in s .pre .1 _ (omega (arith, c .page-of .ensures, part-page _ _ _ _ _ (s .pre .0)))
 
 enum-known-found : tie.Need-enum-known-found
 enum-known-found c = search needs
@@ -33,20 +33,20 @@ enum-known-found c = search needs
 returns : tie.Need-returns
 returns c =
     let l = c .before in
-    part-refused _ _ _ _ _ _ _ _ _ _ _ (entry (l .before) .pre) (l .look .result) _ (l .before .page-of .ensures) (l .look .ensures) _
-    (refused-as (l .look .result) _ refl (c .match .keys2))
+    part-refused _ _ _ _ _ _ _ _ _ _ _ (entry (l .before) .pre .0) (l .look-checked .result) _ (l .before .page-of .ensures) (l .look-checked .ensures) _
+    (refused-as (l .look-checked .result) _ refl (c .match .keys2))
 
 returns-2 : tie.Need-returns-2
 returns-2 c =
     let l = c .before .before .before .before .before in
-    part-beyond _ _ _ _ _ _ _ _ _ _ _ (entry (l .before) .pre) (l .look .result) _ (l .before .page-of .ensures) (l .look .ensures) _
+    part-beyond _ _ _ _ _ _ _ _ _ _ _ (entry (l .before) .pre .0) (l .look-checked .result) _ (l .before .page-of .ensures) (l .look-checked .ensures) _
     (c .before .before .before .found .given .1) (c .if1 .taken)
 
 ram-place-requires : tie.Need-ram-place-requires
 ram-place-requires c κs = search needs
 
 add-to : tie.Need-add-to
-add-to c = omega (arith, part-low _ _ _ _ _ (entry (look-of c .before) .pre) _ _ (c .ram-place .ensures) (c .before .if1 .left))
+add-to c = omega (arith, part-low _ _ _ _ _ (entry (look-of c .before) .pre .0) _ _ (c .ram-place .ensures) (c .before .if1 .left))
 
 sub-copy : tie.Need-sub-copy
 sub-copy c = search needs
@@ -55,12 +55,12 @@ part-copy-start : tie.Need-part-copy-start
 part-copy-start c = search needs
 
 part-copy-end : tie.Need-part-copy-end
-part-copy-end c = omega (arith, part-ends _ _ _ _ _ (entry (look-of c .before) .pre) _ _ (c .ram-place .ensures) (c .before .if1 .left))
+part-copy-end c = omega (arith, part-ends _ _ _ _ _ (entry (look-of c .before) .pre .0) _ _ (c .ram-place .ensures) (c .before .if1 .left))
 
 copy-requires : tie.Need-copy-requires
 copy-requires c κs =
     let p = c .before in
-    let pre = entry (look-of p .before) .pre in
+    let pre = entry (look-of p .before) .pre .0 in
     (omega (arith, part-small _ _ _ _ _ pre), omega (arith, part-long _ _ _ _ _ pre _ _ (p .ram-place .ensures) (p .before .if1 .left)))
 
 same-length : tie.Need-same-length
@@ -70,7 +70,7 @@ returns-3 : tie.Need-returns-3
 returns-3 c =
     let p = c .before .before .before .before in
     let l = look-of p in
-    part-stored _ _ _ _ _ _ _ _ _ _ _ (entry (l .before) .pre) (l .look .result) _ (l .before .page-of .ensures) (l .look .ensures) _
+    part-stored _ _ _ _ _ _ _ _ _ _ _ (entry (l .before) .pre .0) (l .look-checked .result) _ (l .before .page-of .ensures) (l .look-checked .ensures) _
     (p .before .before .before .before .found .given .1) _ _ (p .ram-place .ensures) (p .before .if1 .left) (c .before .before .copy .ensures)
 
 pub write-part-spec : {M : Type 1} → statement M
@@ -78,8 +78,8 @@ write-part-spec =
     tie.close
     (tie.spec
     page-of-requires
-    cast-look
-    look-requires
+    cast-look-checked
+    look-checked-requires
     enum-known-found
     returns
     returns-2
