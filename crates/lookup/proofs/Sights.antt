@@ -105,16 +105,15 @@ lookable h i index count table helper stack cache link ram ok space lent b page 
       cache-long = lent .cache refl;
     }
 
--- a call that changes words of tables, and neither sizes nor lengths, keeps it so
-pub still-lookable : {z : Sizes} {x c t e s a l : ℕ} {k k′ : Memory} → Tables z x c t e s a l k k′ → (i : ℕ)
-    → Lookable (k .head) i (k .index) (k .count) (k .table) (k .helper) (k .stack) (k .cache) → Lookable (k′ .head) i (k′ .index) (k′ .count) (k′ .table) (k′ .helper) (k′ .stack) (k′ .cache)
-still-lookable {k = k} {k′ = k′} t i before b page =
+-- a call that changes words of tables, and neither sizes nor lengths, keeps a page so
+pub still-ready : {z : Sizes} {x c t e s a l : ℕ} {k k′ : Memory} → Tables z x c t e s a l k k′ → {i b : ℕ}
+    → Ready (k .head) i b (k .index) (k .count) (k .table) (k .helper) (k .stack) (k .cache) → Ready (k′ .head) i b (k′ .index) (k′ .count) (k′ .table) (k′ .helper) (k′ .stack) (k′ .cache)
+still-ready {k = k} {k′ = k′} t {i} {b} y =
     let back = sym (t .sizes) in
-    let y = before b (subst (λ (z : Sizes). b < z .pages) (t .sizes) page) in
     record {
       sizes-ok = subst (λ (z : Sizes). sizesOk z ≡ true) back (y .sizes-ok);
       space = subst (λ (z : Sizes). i < z .spaces) back (y .space);
-      page = page;
+      page = subst (λ (z : Sizes). b < z .pages) back (y .page);
       index-long = long (λ z. size (places z)) (t .index) (y .index-long);
       count-long = long places (t .count) (y .count-long);
       table-long = long places (t .table) (y .table-long);

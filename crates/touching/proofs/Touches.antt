@@ -1,5 +1,5 @@
 -- From a plan to the whole touch: what carrying it out may take for granted, and that it keeps the promise.
-use mathlib.Core.Path.{_≡_, refl, sym, _∙_}
+use mathlib.Core.Path.{_≡_, refl, sym, ap, _∙_}
 use mathlib.Core.Bool.{Bool, true, false}
 use mathlib.Core.List.{List, []}
 use Prim.Native.Nat.{ℕ, zero, suc, _+_, _≤_, _<_}
@@ -7,71 +7,70 @@ use native.Mathlib.Omega.{arith}
 use borrow.Author.Tests.{ltb-true}
 use lib.Dec.{ltb}
 use lib.ListN.{length}
-use Rattle.machine.specs.Machine.{places, placeOf, sizesOk, touch, Answer, old, new, refused}
-use Rattle.machine.specs.Laws.Sizes.{both, fit}
-use Rattle.memory.specs.Memory.{Memory, memory, at, sizesOf}
+use Rattle.machine.specs.Machine.{Sizes, places, placeOf, touch, asked, Answer, old, new, refused}
+use Rattle.machine.specs.Laws.Sizes.{both, fit, place-below}
+use Rattle.memory.specs.Memory.{Memory, memory, at, sizesOf, lengths}
 use Rattle.memory.specs.declared.Head.{Head}
 use Rattle.memory.specs.declared.Taken.{Taken}
 use Rattle.memory.specs.declared.Sight.{Sight}
 use Rattle.memory.specs.declared.Sight.the-variants as sight-is
 use Rattle.memory.specs.declared.Plan.{Plan}
 use Rattle.memory.specs.declared.Plan.the-variants as plan-is
-use Rattle.promise.specs.Did.{Did}
-use Rattle.laws.specs.Models.{checkOf, pageInside, emptyPool, topOk, fitOk, planIf, planFor, takenFrom, taken, planSays, planLeaves, SeenAt, Touches, Checked, touchLengths}
+use Rattle.promise.specs.Did.{Tables, Did}
+use Rattle.laws.specs.Models.{checkOf, emptyPool, topOk, fitOk, planIf, planFor, takenFrom, planSays, planLeaves, SeenAt, touchLengths}
 use Rattle.laws.specs.Checking as checking
+use Rattle.laws.specs.Passing.{touch-passes}
 use Rattle.laws.specs.Checks.{touch-check}
+use Rattle.laws.specs.Told.{early-refused}
 use Rattle.laws.specs.Touching.{seen-inside, new-inside, touch-did}
 use Rattle.lookup.specs.Ready.{Ready, SeenOf}
-use Rattle.touching.specs.Fits.{InReach, TakeableFrom, Top, Mappable, Mapped, Sees, PlannedIf, Planned}
+use Rattle.lookup.proofs.Sights.{lookable, still-ready, ready-long, not-lent}
+use Rattle.touching.specs.Fits.{Touchable, InReach, TakeableFrom, Top, Mappable, Mapped, Planned}
 
 -- ---- a touch that passed the checks
 
-module _ (h : Head) (i b : ℕ) (index count table helper stack cache link ram : List ℕ)
-    (passes : (let k = memory h index count table helper stack cache link ram in checkOf h (touchLengths k) i (pageInside k b) ≡ 0)) where
-  abbrev k : Memory
-  k = memory h index count table helper stack cache link ram
-
-  ready : checking.Ready h (touchLengths (memory h index count table helper stack cache link ram)) i (ltb b (h .pages))
-  ready = checking.ready h (touchLengths k) i (pageInside k b) passes
-
-  pub touch-ready : Ready h i b index count table helper stack cache
-  touch-ready =
+module _ (h : Head) (i b : ℕ) (index count table helper stack cache link : List ℕ) (no : ℕ)
+    (checked : no ≡ checkOf h (touchLengths (memory h index count table helper stack cache link [])) i (ltb b (h .pages))) where
+  pub touch-ready : no ≡ 0 → Touchable h i b index count table helper stack cache link
+  touch-ready pass =
+      let y = checking.ready h _ i _ (sym checked ∙ pass) in
       record {
-        sizes-ok = ready .sizes-ok;
-        space = ready .space;
-        page = ltb-true b (h .pages) (ready .is-inside);
-        index-long = ready .lent .index refl;
-        count-long = ready .lent .count refl;
-        table-long = ready .lent .table refl;
-        helper-long = ready .lent .helper refl;
-        stack-long = ready .lent .stack refl;
-        cache-long = ready .lent .cache refl;
+        ready = lookable h i index count table helper stack cache _ _ (y .sizes-ok) (y .space) (y .lent) b (ltb-true b (h .pages) (y .is-inside));
+        link-long = y .lent .link refl;
       }
 
+  pub touch-refused : (no ≡ 0 → ⊥) → (ram : List ℕ) → let k = memory h index count table helper stack cache link ram in Did (touch i b) k (refused no 0) k
+  touch-refused some ram = let k = memory h index count table helper stack cache link ram in early-refused (touch i b) k no (checked ∙ touch-check k i b) some
+
+-- a touch changes neither sizes nor lengths
+pub still-touchable : {z : Sizes} {x c t e s a l : ℕ} {k k′ : Memory} → Tables z x c t e s a l k k′ → {i b : ℕ}
+    → Touchable (k .head) i b (k .index) (k .count) (k .table) (k .helper) (k .stack) (k .cache) (k .link)
+    → Touchable (k′ .head) i b (k′ .index) (k′ .count) (k′ .table) (k′ .helper) (k′ .stack) (k′ .cache) (k′ .link)
+still-touchable t y =
+    record { ready = still-ready t (y .ready); link-long = omega (arith, ap (λ (z : Sizes). z .frames) (t .sizes), t .link .few .size, y .link-long) }
+
+-- ---- the plan
+
+module _ (h : Head) (i b : ℕ) (index count table helper stack cache : List ℕ) (s : Sight) (seen : SeenOf h i b index count table helper stack cache s) where
   -- a start that is seen is a place
-  pub seen-reach : (s : Sight) (t : ℕ) → t ≡ places (sizesOf h) → SeenOf h i b index count table helper stack cache s → InReach s t count stack
-  seen-reach (sight-is.Mapped f) t e seen = tt
-  seen-reach (sight-is.Outside c) t e seen = tt
-  seen-reach sight-is.Broken t e seen = tt
-  seen-reach (sight-is.Unmapped a c) t e seen =
-      rw e (
-        seen-inside k i b (sym (touch-check k i b) ∙ passes) a c seen,
-        fit (sizesOf h) (ready .sizes-ok) .few-places,
-        ready .lent .count refl,
-        ready .lent .stack refl,
-      )
+  pub seen-reach : Ready h i b index count table helper stack cache → (t : ℕ) → t ≡ places (sizesOf h) → InReach s t count stack
+  seen-reach y t e = go s seen
+    where
+      go : (s : Sight) → SeenOf h i b index count table helper stack cache s → InReach s t count stack
+      go (sight-is.Mapped f) seen = tt
+      go (sight-is.Outside c) seen = tt
+      go sight-is.Broken seen = tt
+      go (sight-is.Unmapped a c) seen =
+          let z = sizesOf h in
+          rw e (
+            seen-inside (memory h index count table helper stack cache [] []) i b (y .sizes-ok) (y .index-long) (place-below z i b (y .space) (y .page)) a c seen,
+            fit z (y .sizes-ok) .few-places,
+            y .count-long,
+            y .stack-long,
+          )
 
--- ---- the plan, from the number of the check
-
-module _ (h : Head) (i b : ℕ) (index count table helper stack cache link : List ℕ) (n : ℕ)
-    (checked : n ≡ checkOf h (touchLengths (memory h index count table helper stack cache link [])) i (ltb b (h .pages))) where
-  pub planned-no : (n ≡ 0 → ⊥) → Planned h i b index count table helper stack cache link (plan-is.Refused n 0)
-  planned-no some = record { any = λ ram. checking.on-no _ (λ n. plan-is.Refused n 0) _ n checked some }
-
-  pub planned-seen : n ≡ 0 → (s : Sight) (t : ℕ) (r : Plan) → SeenOf h i b index count table helper stack cache s → t ≡ places (sizesOf h) → r ≡ planFor h count stack t s
-      → Planned h i b index count table helper stack cache link r
-  planned-seen none s t r seen et is =
-      record { any = λ ram. checking.on-yes _ (λ n. plan-is.Refused n 0) _ n r checked none (record { sight = s; seen = seen; is = rw et at is }) }
+  pub planned-as : (t : ℕ) (r : Plan) → t ≡ places (sizesOf h) → r ≡ planFor h count stack t s → Planned h i b index count table helper stack cache r
+  planned-as t r et is = record { sight = s; seen = seen; is = rw et at is }
 
 -- ---- a plan to map a page
 
@@ -109,29 +108,25 @@ fit-top : (h : Head) (count stack : List ℕ) (t a : ℕ) → fitOk h count stac
 unfolding fitOk
 fit-top h count stack t a e = both (ltb (a + at count a) t) _ (both _ _ e .0) .1
 
-module _ (h : Head) (i b : ℕ) (index count table helper stack cache link : List ℕ) (r : Plan) (a c : ℕ)
-    (planned : Planned h i b index count table helper stack cache link r) (is : r ≡ plan-is.New a c) where
-  abbrev k₀ : Memory
-  k₀ = memory h index count table helper stack cache link []
+-- ---- the whole touch
 
-  saw : (checkOf h (touchLengths (memory h index count table helper stack cache link [])) i (ltb b (h .pages)) ≡ 0) × Sees (memory h index count table helper stack cache link []) i b r
-  saw = checking.on-passed _ (λ n. plan-is.Refused n 0) _ r (λ n e. let z : _≡_ {A = ℕ} 0 1 = cc in omega arith) (planned .any [])
+module _ (h : Head) (i b : ℕ) (index count table helper stack cache link : List ℕ) (y : Touchable h i b index count table helper stack cache link) (r : Plan)
+    (planned : Planned h i b index count table helper stack cache r) where
+  passes : (ram : List ℕ) → asked (sizesOf h) (touch i b (lengths (memory h index count table helper stack cache link ram))) ≡ 0
+  passes ram =
+      let g = y .ready in
+      touch-passes (sizesOf h) i b _ (g .sizes-ok) (g .space) (g .page) (ready-long h i b index count table helper stack cache g link ram _ (λ _. y .link-long) not-lent)
 
-  known : Ready h i b index count table helper stack cache
-  known = touch-ready h i b index count table helper stack cache link [] (saw .0)
-
-  pub touch-place : (sizesOk (sizesOf h) ≡ true) × (i < h .spaces) × (b < h .pages)
-  touch-place = (known .sizes-ok, known .space, known .page)
-
-  pub touch-mappable : (p : ℕ) → p ≡ placeOf (sizesOf h) i b → Mappable h count table helper stack cache link a p
-  touch-mappable p ep =
+  pub touch-mappable : (a c : ℕ) → r ≡ plan-is.New a c → (p : ℕ) → p ≡ placeOf (sizesOf h) i b → Mappable h count table helper stack cache link a p
+  touch-mappable a c is p ep =
+      let k = memory h index count table helper stack cache link [] in
       let z = sizesOf h in
-      let y = saw .1 in
-      let m = plan-maps h count stack (places z) a c (y .sight) (sym (y .is) ∙ is) in
-      let seen : SeenAt k₀ i b (sight-is.Unmapped a c) = rw (m .seen-as) at (y .seen) in
+      let known = y .ready in
+      let long-link = y .link-long in
+      let m = plan-maps h count stack (places z) a c (planned .sight) (sym (planned .is) ∙ is) in
+      let seen : SeenAt k i b (sight-is.Unmapped a c) = rw (m .seen-as) at (planned .seen) in
       let f = fit z (known .sizes-ok) in
-      let g = new-inside k₀ i b (sym (touch-check k₀ i b) ∙ saw .0) a c seen (m .some-left) (m .fits) in
-      let long-link = checking.ready h (touchLengths k₀) i (pageInside k₀ b) (saw .0) .lent .link refl in
+      let g = new-inside k i b (passes []) a c seen (m .some-left) (m .fits) in
       rw ep
       (record {
         takeable = takeable h link (h .many) (g .frame) (f .few-frames) long-link;
@@ -146,32 +141,24 @@ module _ (h : Head) (i b : ℕ) (index count table helper stack cache link : Lis
         in-cache = omega (arith, g .place, known .cache-long);
       })
 
--- ---- the whole touch
+  module _ (ram : List ℕ) where
+    abbrev before : Memory
+    before = memory h index count table helper stack cache link ram
 
-touch-done : (n : ℕ) (k : Memory) (i b : ℕ) (r : Plan) → PlannedIf n k i b r → (a : Answer) (k′ : Memory) → a ≡ planSays r k → k′ ≡ planLeaves r k (placeOf (sizesOf (k .head)) i b)
-    → Checked n (λ a k′. Touches k i b a k′) k a k′
-touch-done zero k i b r w a k′ says leaves =
-    record { sight = w .sight; seen = w .seen; answer-is = rw (w .is) at says; after-is = rw (w .is) at leaves }
-touch-done (suc n) k i b r w a k′ says leaves = record { answer-is = rw w at says; same = rw w at leaves }
+    touched : (a : Answer) (k′ : Memory) → (a ≡ planSays r before) × (k′ ≡ planLeaves r before (placeOf (sizesOf h) i b)) → Did (touch i b) before a k′
+    touched a k′ (says, leaves) =
+        touch-did i b before a k′
+        (checking.checked-yes _ 0 _ before k′ a (sym (touch-check before i b ∙ passes ram)) refl
+        (record { sight = planned .sight; seen = planned .seen; answer-is = rw (planned .is) at says; after-is = rw (planned .is) at leaves }))
 
-module _ (h : Head) (i b : ℕ) (index count table helper stack cache link : List ℕ) (r : Plan)
-    (planned : Planned h i b index count table helper stack cache link r) (ram : List ℕ) where
-  abbrev before : Memory
-  before = memory h index count table helper stack cache link ram
+    pub did-old : (f : ℕ) → r ≡ plan-is.Old f → Did (touch i b) before (old f) before
+    did-old f is = touched (old f) before (rw is (refl, refl))
 
-  touched : (a : Answer) (k′ : Memory) → (a ≡ planSays r before) × (k′ ≡ planLeaves r before (placeOf (sizesOf h) i b)) → Did (touch i b) before a k′
-  touched a k′ (says, leaves) =
-      touch-did i b before a k′
-      (touch-done (checkOf h (touchLengths before) i (pageInside before b)) before i b r (planned .any ram) a k′ says leaves)
+    pub did-refuse : (n c : ℕ) → r ≡ plan-is.Refused n c → Did (touch i b) before (refused n c) before
+    did-refuse n c is = touched (refused n c) before (rw is (refl, refl))
 
-  pub did-old : (f : ℕ) → r ≡ plan-is.Old f → Did (touch i b) before (old f) before
-  did-old f is = touched (old f) before (rw is (refl, refl))
-
-  pub did-refuse : (n c : ℕ) → r ≡ plan-is.Refused n c → Did (touch i b) before (refused n c) before
-  did-refuse n c is = touched (refused n c) before (rw is (refl, refl))
-
-  pub did-new : (a c p : ℕ) (t : Taken) (count′ table′ helper′ stack′ cache′ link′ : List ℕ) → r ≡ plan-is.New a c → p ≡ placeOf (sizesOf h) i b
-      → Mapped h count table helper stack cache link a p t count′ table′ helper′ stack′ cache′ link′
-      → Did (touch i b) before (new (t .frame) c) (memory (t .head) index count′ table′ helper′ stack′ cache′ link′ ram)
-  did-new a c p t count′ table′ helper′ stack′ cache′ link′ is place m =
-      rw (m .count-is, m .table-is, m .helper-is, m .stack-is, m .cache-is, m .link-is, m .first, place) (touched _ _ (rw is (refl, refl)))
+    pub did-new : (a c p : ℕ) (t : Taken) (count′ table′ helper′ stack′ cache′ link′ : List ℕ) → r ≡ plan-is.New a c → p ≡ placeOf (sizesOf h) i b
+        → Mapped h count table helper stack cache link a p t count′ table′ helper′ stack′ cache′ link′
+        → Did (touch i b) before (new (t .frame) c) (memory (t .head) index count′ table′ helper′ stack′ cache′ link′ ram)
+    did-new a c p t count′ table′ helper′ stack′ cache′ link′ is place m =
+        rw (m .count-is, m .table-is, m .helper-is, m .stack-is, m .cache-is, m .link-is, m .first, place) (touched _ _ (rw is (refl, refl)))

@@ -22,7 +22,8 @@ ghost use Rattle.machine.specs.Answers.{touchedSays};
 ghost use Rattle.memory.specs.Memory.{memory};
 ghost use Rattle.promise.specs.Did.{Did};
 ghost use Rattle.laws.specs.Models.{emptyPool, topOk, nextOk, fitOk, planFor, newestOf, taken};
-ghost use Rattle.touching.specs.Fits.{InReach, Takeable, Top, Mappable, Mapped, Planned};
+ghost use Rattle.lookup.specs.Ready.{Ready};
+ghost use Rattle.touching.specs.Fits.{Touchable, InReach, Takeable, Top, Mappable, Mapped, Planned};
 
 // Whether no frame is left.
 fn empty_pool(h: Head) -> bool
@@ -183,26 +184,55 @@ fn planned(
     helper: &[u32],
     stack: &[u32],
     cache: &[u32],
-    link: &[u32],
 ) -> Plan
-    ensures { λ r. ⌜ Planned head space page (now (index .entry)) (now (count .entry)) (now (table .entry)) (now (helper .entry)) (now (stack .entry)) (now (cache .entry)) (now (link .entry)) r ⌝ }
+    requires { ⌜ Ready head space page (now index) (now count) (now table) (now helper) (now stack) (now cache) ⌝ }
+    ensures { λ r. ⌜ Planned head space page (now (index .entry)) (now (count .entry)) (now (table .entry)) (now (helper .entry)) (now (stack .entry)) (now (cache .entry)) r ⌝ }
 {
-    let lent = Lengths {
-        index: index.len(),
-        count: count.len(),
-        table: table.len(),
-        helper: helper.len(),
-        stack: stack.len(),
-        cache: cache.len(),
-        link: link.len(),
-        ram: ANY,
-    };
-    let no = check(head, lent, space, page < head.pages);
-    if no != 0 {
-        return Plan::Refused(no, 0);
-    }
     let s = see(head, space, page, index, count, table, helper, stack, cache);
     plan(head, s, count, stack, all_places(head))
+}
+
+// The touch of a call that passed the checks: a write checks once and touches many pages.
+pub fn touch_checked(
+    head: Head,
+    space: u32,
+    page: u32,
+    index: &[u64],
+    count: &mut [u32],
+    table: &mut [u32],
+    helper: &mut [u32],
+    stack: &mut [u32],
+    cache: &mut [u32],
+    link: &mut [u32],
+) -> TouchOut
+    requires { ⌜ Touchable head space page (now index) (now count) (now table) (now helper) (now stack) (now cache) (now link) ⌝ }
+    ensures { λ r. ⌜ ((ram : List ℕ) →
+        Did (machine.touch space page)
+        (memory head (now (index .entry)) (now (count .entry)) (now (table .entry)) (now (helper .entry)) (now (stack .entry)) (now (cache .entry)) (now (link .entry)) ram)
+        (touchedSays (r .answer))
+        (memory (r .head) (now (index .entry)) (now (count .exit)) (now (table .exit)) (now (helper .exit)) (now (stack .exit)) (now (cache .exit)) (now (link .exit)) ram)) ⌝ }
+{
+    let todo = planned(head, space, page, index, count, table, helper, stack, cache);
+    match todo {
+        Plan::Old(f) => TouchOut {
+            head,
+            answer: Touched::Old(f),
+        },
+        Plan::New(a, c) => {
+            let p = place(head, space, page);
+            let new = map_page(head, count, table, helper, stack, cache, link, a, p);
+            let frame = new.frame;
+            let next = new.head;
+            TouchOut {
+                head: next,
+                answer: Touched::New(frame, c),
+            }
+        }
+        Plan::Refused(n, c) => TouchOut {
+            head,
+            answer: Touched::Refused(n, c),
+        },
+    }
 }
 
 // The page's frame, mapped if need be.
@@ -224,7 +254,24 @@ pub fn touch(
         (touchedSays (r .answer))
         (memory (r .head) (now (index .entry)) (now (count .exit)) (now (table .exit)) (now (helper .exit)) (now (stack .exit)) (now (cache .exit)) (now (link .exit)) ram)) ⌝ }
 {
-    let todo = planned(
+    let lent = Lengths {
+        index: index.len(),
+        count: count.len(),
+        table: table.len(),
+        helper: helper.len(),
+        stack: stack.len(),
+        cache: cache.len(),
+        link: link.len(),
+        ram: ANY,
+    };
+    let no = check(head, lent, space, page < head.pages);
+    if no != 0 {
+        return TouchOut {
+            head,
+            answer: Touched::Refused(no, 0),
+        };
+    }
+    touch_checked(
         head,
         space,
         page,
@@ -235,25 +282,5 @@ pub fn touch(
         stack,
         cache,
         link,
-    );
-    match todo {
-        Plan::Old(f) => TouchOut {
-            head,
-            answer: Touched::Old(f),
-        },
-        Plan::New(a, c) => {
-            let p = place(head, space, page);
-            let new = map_page(head, count, table, helper, stack, cache, link, a, p);
-            let frame = new.frame;
-            let next = new.head;
-            TouchOut {
-                head: next,
-                answer: Touched::New(frame, c),
-            }
-        }
-        Plan::Refused(n, c) => TouchOut {
-            head,
-            answer: Touched::Refused(n, c),
-        },
-    }
+    )
 }

@@ -18,7 +18,8 @@ use Rattle.laws.specs.SpanChecks.{write-check}
 use Rattle.laws.specs.Touches.{all-tables}
 use Rattle.laws.specs.Writing.{Admitted, write-admitted, span-pages-inside, writeRefusal, refusalOf, write-refused, write-done, withBytes}
 use Rattle.lookup.specs.Ready.{Lookable}
-use Rattle.lookup.proofs.Sights.{lookable, still-lookable}
+use Rattle.lookup.proofs.Sights.{lookable, still-ready}
+use Rattle.touching.specs.Fits.{Touchable}
 use Rattle.spans.specs.Parts.{Span}
 use Rattle.writing.specs.Surveys.{Surveyed, Settled}
 use Rattle.writing.specs.Stores.{Stored}
@@ -57,6 +58,9 @@ module _ {k : Memory} {i x : ℕ} {vs : List ℕ} {first pages : ℕ} (s : Spann
   pub span-lookable : Lookable (k .head) i (k .index) (k .count) (k .table) (k .helper) (k .stack) (k .cache)
   span-lookable = lookable (k .head) i (k .index) (k .count) (k .table) (k .helper) (k .stack) (k .cache) _ _ (admitted .sizes-ok) (admitted .space) (admitted .lent)
 
+  pub span-touchable : (b : ℕ) → b < first + pages → Touchable (k .head) i b (k .index) (k .count) (k .table) (k .helper) (k .stack) (k .cache) (k .link)
+  span-touchable b l = record { ready = span-lookable b (omega (arith, end-inside)); link-long = admitted .lent .link refl }
+
   count-is : first + pages - first ≡ spanPages z x (length vs)
   count-is = add-sub-cancel-left first pages ∙ s .pages-is
 
@@ -93,7 +97,7 @@ module _ {k : Memory} {i x : ℕ} {vs : List ℕ} {first pages : ℕ} (s : Spann
         }
 
     pub next-lookable : Lookable (k₁ .head) i (k₁ .index) (k₁ .count) (k₁ .table) (k₁ .helper) (k₁ .stack) (k₁ .cache)
-    next-lookable = still-lookable (all-tables touched) i span-lookable
+    next-lookable b l = still-ready (all-tables touched) (span-lookable b (subst (λ (y : Sizes). b < y .pages) sizes-stay l))
 
     pub written : {short : ℕ} → Decided k i x vs short → short ≡ 0 → k₁ .index ≡ k .index → {ram : List ℕ}
         → Stored (k₁ .head) i x vs (k₁ .index) (k₁ .count) (k₁ .table) (k₁ .helper) (k₁ .stack) (k₁ .cache) (k .ram) ram → Did (write i x vs) k done (withBytes k₁ ram)

@@ -15,11 +15,11 @@ use spans::absence;
 use spans::page_of;
 use spans::part;
 use spans::ram_place;
-use touching::touch;
+use touching::touch_checked;
 ghost use mathlib.Core.Path.{_≡_};
 ghost use mathlib.Core.Bool.{true};
 ghost use mathlib.Core.List.{List};
-ghost use Prim.Native.Nat.{ℕ, _-_, _≤_};
+ghost use Prim.Native.Nat.{ℕ, _-_, _≤_, _<_};
 ghost use lib.ListN.{length};
 ghost use Rattle.machine.specs.Machine as machine;
 ghost use Rattle.machine.specs.Answers.{doneSays};
@@ -27,6 +27,7 @@ ghost use Rattle.memory.specs.Memory.{memory, sizesOf};
 ghost use Rattle.promise.specs.Did.{Did};
 ghost use Rattle.laws.specs.Spans.{AllTouched};
 ghost use Rattle.lookup.specs.Ready.{Lookable};
+ghost use Rattle.touching.specs.Fits.{Touchable};
 ghost use Rattle.spans.specs.Parts.{Span, Part};
 ghost use Rattle.writing.specs.Surveys.{Surveyed, Settled};
 ghost use Rattle.writing.specs.Stores.{Stored};
@@ -111,7 +112,7 @@ fn touch_all(
     cache: &mut [u32],
     link: &mut [u32],
 ) -> Head
-    requires { ⌜ (first ≤ end) × (end ≤ 262144) ⌝ }
+    requires { ⌜ (first ≤ end) × ((b : ℕ) → b < end → Touchable head space b (now index) (now count) (now table) (now helper) (now stack) (now cache) (now link)) ⌝ }
     ensures { λ r. ⌜ ((ram : List ℕ) →
         AllTouched space first
         (memory head (now (index .entry)) (now (count .entry)) (now (table .entry)) (now (helper .entry)) (now (stack .entry)) (now (cache .entry)) (now (link .entry)) ram)
@@ -121,7 +122,7 @@ fn touch_all(
     let mut after = head;
     let mut next = first;
     while next < end {
-        let out = touch(
+        let out = touch_checked(
             after,
             space,
             next as u32,

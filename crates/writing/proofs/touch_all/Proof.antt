@@ -1,8 +1,11 @@
--- Each turn touches the next page by touch's own promise.
-use Prim.Native.Nat.{_-_}
+-- Each turn touches the next page by touch's own promise; what the checks showed stays.
+use Prim.Native.Nat.{_-_, _<_}
 use native.Mathlib.Omega.{arith}
 use borrow.Author.Needs.{needs}
+use Rattle.machine.specs.Laws.Sizes.{fit}
 use Rattle.memory.specs.Memory.{memory}
+use Rattle.touching.specs.Fits.{Touchable}
+use Rattle.touching.proofs.Touches.{still-touchable}
 use Rattle.writing.proofs.Touching.{SoFar, touched-none, touched-more, touched-all, touched-tables}
 use Rattle.writing.proofs.touch_all.Statement.{statement}
 use Rattle.writing.proofs.touch_all.Tie as tie
@@ -20,30 +23,41 @@ abbrev entry : tie.In-loop Inv-loop μ-loop → tie.Start Inv-loop μ-loop
 entry c = c .before .before .before .before .before .before .before .before .before
 
 -- the turn of a touch
-abbrev turn : tie.After-touch Inv-loop μ-loop → tie.In-loop Inv-loop μ-loop
+abbrev turn : tie.After-touch-checked Inv-loop μ-loop → tie.In-loop Inv-loop μ-loop
 turn c = c .before .before .before .before .before .before .before
 
 -- the touch, before its references came back
-abbrev touch-of : tie.After-after Inv-loop μ-loop → tie.After-touch Inv-loop μ-loop
+abbrev touch-of : tie.After-after Inv-loop μ-loop → tie.After-touch-checked Inv-loop μ-loop
 touch-of c = c .before .before .before .before .before .before .before .before .before .before .before .before .before
+
+-- what no touch before it took away
+touchable : (c : tie.In-loop Inv-loop μ-loop)
+    → let s = entry c in
+    let l = c .before .loop in
+    Touchable (l .after) (s .args .space) (l .next) (s .args .index .now) (l .count) (l .table) (l .helper) (l .stack) (l .cache) (l .link)
+touchable c = still-touchable (touched-tables (c .before .loop .inv)) (entry c .pre .1 (c .before .loop .next) (c .loop-test .taken))
+
+-- the page lies in the space, so that its number is small
+page-low : (c : tie.In-loop Inv-loop μ-loop) → c .before .loop .next < 262144
+page-low c = let y = touchable c .ready in omega (arith, fit _ (y .sizes-ok) .few-pages, y .page)
 
 loop-holds : tie.Need-loop-holds Inv-loop μ-loop
 loop-holds c = touched-none (c .before .before .before .before .before .before .before .pre .0)
 
-cast-touch : tie.Need-cast-touch Inv-loop μ-loop
-cast-touch c = omega (arith, entry c .pre .1)
+cast-touch-checked : tie.Need-cast-touch-checked Inv-loop μ-loop
+cast-touch-checked c = omega (arith, page-low c)
 
-touch-requires : tie.Need-touch-requires Inv-loop μ-loop
-touch-requires c κs = search needs
+touch-checked-requires : tie.Need-touch-checked-requires Inv-loop μ-loop
+touch-checked-requires c κs = touchable (c .before .before .before .before .before .before)
 
 add-next : tie.Need-add-next Inv-loop μ-loop
-add-next c = let t = turn (touch-of c) in omega (arith, t .loop-test .taken, entry t .pre .1)
+add-next c = let t = turn (touch-of c) in omega (arith, page-low t)
 
 loop-less : tie.Need-loop-less Inv-loop μ-loop
 loop-less c = let t = turn (touch-of c) in omega (arith, t .loop-test .taken)
 
 loop-again : tie.Need-loop-again Inv-loop μ-loop
-loop-again c = let t = turn (touch-of c) in touched-more (t .before .loop .inv) (t .loop-test .taken) (touch-of c .touch .ensures)
+loop-again c = let t = turn (touch-of c) in touched-more (t .before .loop .inv) (t .loop-test .taken) (touch-of c .touch-checked .ensures)
 
 same-length : tie.Need-same-length Inv-loop μ-loop
 same-length c = touched-tables (c .before .loop .inv) .count .few .size
@@ -73,8 +87,8 @@ touch-all-spec =
     Inv-loop
     μ-loop
     loop-holds
-    cast-touch
-    touch-requires
+    cast-touch-checked
+    touch-checked-requires
     add-next
     loop-less
     loop-again

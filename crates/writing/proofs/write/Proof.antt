@@ -6,7 +6,7 @@ use Rattle.machine.specs.Machine.{write, asked}
 use Rattle.memory.specs.Memory.{Memory, memory, sizesOf, lengths}
 use Rattle.laws.specs.Told.{early-refused}
 use Rattle.laws.specs.Writing.{write-admitted}
-use Rattle.writing.proofs.Written.{number-is, Spanned, Decided, admitted, end-inside, end-small, span-lookable, decided, refused-short, next-span, next-lookable, written}
+use Rattle.writing.proofs.Written.{number-is, Spanned, Decided, admitted, end-inside, end-small, span-lookable, span-touchable, decided, refused-short, next-span, next-lookable, written}
 use Rattle.writing.proofs.write.Statement.{statement}
 use Rattle.writing.proofs.write.Tie as tie
 
@@ -94,7 +94,7 @@ returns-2 : tie.Need-returns-2
 returns-2 c = refused-short (span (paged (c .before))) (decision (c .before)) (c .if2 .taken)
 
 touch-all-requires : tie.Need-touch-all-requires
-touch-all-requires c κs = (omega arith, end-small (span (paged (c .before .before .before .before .before .before .before))))
+touch-all-requires c κs = (omega arith, span-touchable (span (paged (c .before .before .before .before .before .before .before))))
 
 store-requires : tie.Need-store-requires
 store-requires c κs =
