@@ -16,7 +16,7 @@ use Rattle.machine.specs.Laws.Sizes.{fit, some-places, place-below}
 use Rattle.memory.specs.Memory.{Memory, memory, at, sizesOf, lengths}
 use Rattle.memory.specs.declared.Head.{Head}
 use Rattle.memory.specs.declared.Sight.{Sight}
-use Rattle.memory.specs.declared.Sight.the-variants.{Unmapped, Outside, Broken}
+use Rattle.memory.specs.declared.Sight.the-variants.{Mapped, Unmapped, Outside, Broken}
 use Rattle.laws.specs.Models.{residentOk, sightMapped, sightFound, Searched, Seen, everything, lookLengths, checkOf, lookSays}
 use Rattle.promise.specs.Did.{Words, Tables, Did}
 use Rattle.laws.specs.Refusals.{Long}
@@ -84,6 +84,12 @@ module _ (h : Head) (i b : ℕ) (index count table helper stack cache : List ℕ
       → SeenOf h i b index count table helper stack cache r
   unfolding Seen
   seen-searched x r e s q = rw (← et, ← el, ← ep, ← e, s) q
+
+-- a resident page's frame below F is what is seen
+pub seen-frame : (h : Head) (i b : ℕ) (index count table helper stack cache : List ℕ) (t p : ℕ) → t ≡ places (sizesOf h) → p ≡ placeOf (sizesOf h) i b
+    → {x : Bool} → x ≡ residentOk count helper stack cache t p → x ≡ true → at table p < h .frames → SeenOf h i b index count table helper stack cache (Mapped (at table p))
+seen-frame h i b index count table helper stack cache t p et ep e s l =
+    seen-mapped h i b index count table helper stack cache t _ p et refl ep _ _ e s (rw (lt-ltb (at table p) (h .frames) l))
 
 -- ---- look
 

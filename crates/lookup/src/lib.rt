@@ -12,13 +12,14 @@ use memory::Lengths;
 use memory::Sight;
 ghost use mathlib.Core.Path.{_≡_};
 ghost use mathlib.Core.List.{List};
-ghost use Prim.Native.Nat.{ℕ};
+ghost use Prim.Native.Nat.{ℕ, _<_};
 ghost use lib.Dec.{ltb};
 ghost use lib.ListN.{length};
 ghost use Rattle.index.specs.Answers.{check as indexCheck};
 ghost use Rattle.machine.specs.Machine as machine;
 ghost use Rattle.machine.specs.Answers.{lookedSays};
 ghost use Rattle.memory.specs.Memory.{memory};
+ghost use Rattle.memory.specs.declared.Sight.the-variants.{Mapped};
 ghost use Rattle.promise.specs.Did.{Did};
 ghost use Rattle.laws.specs.Models.{residentOk, sightMapped, Searched, lookSays};
 ghost use Rattle.lookup.specs.Ready.{Tabled, Ready, SeenOf};
@@ -68,6 +69,28 @@ fn framed(frame: u32, frames: u32) -> Sight
         return Sight::Mapped(frame);
     }
     Sight::Broken
+}
+
+// The frame of a page that is resident, and F of one that isn't: the short way of a touch, past index and plan.
+pub fn frame_of(
+    head: Head,
+    space: u32,
+    page: u32,
+    count: &[u32],
+    table: &[u32],
+    helper: &[u32],
+    stack: &[u32],
+    cache: &[u32],
+) -> u32
+    requires { ⌜ ((index : List ℕ) × Ready head space page index (now count) (now table) (now helper) (now stack) (now cache)) ⌝ }
+    ensures { λ r. ⌜ ((index : List ℕ) → r < head .frames → SeenOf head space page index (now (count .entry)) (now (table .entry)) (now (helper .entry)) (now (stack .entry)) (now (cache .entry)) (Mapped r)) ⌝ }
+{
+    let t = all_places(head);
+    let p = place(head, space, page);
+    if resident(t, p, count, helper, stack, cache) {
+        return table[p];
+    }
+    head.frames
 }
 
 // The page of a call that passed the checks.

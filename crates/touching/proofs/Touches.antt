@@ -162,3 +162,10 @@ module _ (h : Head) (i b : ℕ) (index count table helper stack cache link : Lis
         → Did (touch i b) before (new (t .frame) c) (memory (t .head) index count′ table′ helper′ stack′ cache′ link′ ram)
     did-new a c p t count′ table′ helper′ stack′ cache′ link′ is place m =
         rw (m .count-is, m .table-is, m .helper-is, m .stack-is, m .cache-is, m .link-is, m .first, place) (touched _ _ (rw is (refl, refl)))
+
+-- the short way: a resident page answers its frame
+pub did-resident : (h : Head) (i b : ℕ) (index count table helper stack cache link : List ℕ) → Touchable h i b index count table helper stack cache link → (f : ℕ)
+    → SeenOf h i b index count table helper stack cache (sight-is.Mapped f)
+    → (ram : List ℕ) → let k = memory h index count table helper stack cache link ram in Did (touch i b) k (old f) k
+did-resident h i b index count table helper stack cache link y f seen ram =
+    did-old h i b index count table helper stack cache link y (plan-is.Old f) (record { sight = sight-is.Mapped f; seen = seen; is = refl }) ram f refl

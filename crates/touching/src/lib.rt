@@ -4,6 +4,7 @@ use checks::all_places;
 use checks::check;
 use checks::place;
 use checks::wide;
+use lookup::frame_of;
 use lookup::see;
 use machine::Touched;
 use memory::ANY;
@@ -235,7 +236,7 @@ pub fn touch_checked(
     }
 }
 
-// The page's frame, mapped if need be.
+// The page's frame, mapped if need be. A resident page takes the short way, which makes no plan.
 pub fn touch(
     head: Head,
     space: u32,
@@ -269,6 +270,13 @@ pub fn touch(
         return TouchOut {
             head,
             answer: Touched::Refused(no, 0),
+        };
+    }
+    let f = frame_of(head, space, page, count, table, helper, stack, cache);
+    if f < head.frames {
+        return TouchOut {
+            head,
+            answer: Touched::Old(f),
         };
     }
     touch_checked(
