@@ -3,6 +3,7 @@
 use checks::check;
 use checks::span_inside;
 use copying::copy;
+use lookup::frame_of;
 use lookup::look_checked;
 use machine::Done;
 use machine::Free;
@@ -98,6 +99,44 @@ fn settled(head: Head, seen: Tally) -> u32
     }
 }
 
+// Touches a page and leaves the head, for its answer is settled. A resident page takes the short way.
+fn touch_next(
+    head: Head,
+    space: u32,
+    page: u32,
+    index: &[u64],
+    count: &mut [u32],
+    table: &mut [u32],
+    helper: &mut [u32],
+    stack: &mut [u32],
+    cache: &mut [u32],
+    link: &mut [u32],
+) -> Head
+    requires { ⌜ Touchable head space page (now index) (now count) (now table) (now helper) (now stack) (now cache) (now link) ⌝ }
+    ensures { λ r. ⌜ ((a : machine.Answer) × ((ram : List ℕ) →
+        Did (machine.touch space page)
+        (memory head (now (index .entry)) (now (count .entry)) (now (table .entry)) (now (helper .entry)) (now (stack .entry)) (now (cache .entry)) (now (link .entry)) ram)
+        a
+        (memory r (now (index .entry)) (now (count .exit)) (now (table .exit)) (now (helper .exit)) (now (stack .exit)) (now (cache .exit)) (now (link .exit)) ram))) ⌝ }
+{
+    if frame_of(head, space, page, count, table, helper, stack, cache) < head.frames {
+        return head;
+    }
+    let out = touch_checked(
+        head,
+        space,
+        page,
+        index,
+        count,
+        table,
+        helper,
+        stack,
+        cache,
+        link,
+    );
+    out.head
+}
+
 // Touches the pages from first to before end, ascending.
 fn touch_all(
     head: Head,
@@ -122,7 +161,7 @@ fn touch_all(
     let mut after = head;
     let mut next = first;
     while next < end {
-        let out = touch_checked(
+        after = touch_next(
             after,
             space,
             next as u32,
@@ -134,7 +173,6 @@ fn touch_all(
             cache,
             link,
         );
-        after = out.head;
         next += 1;
     }
     after
