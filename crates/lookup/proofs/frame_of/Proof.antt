@@ -2,7 +2,6 @@
 use native.Mathlib.Omega.{arith}
 use Rattle.lookup.proofs.Sights.{tabled, seen-frame}
 use Rattle.lookup.specs.Ready.{Tabled}
-use borrow.Author.Needs.{needs}
 use Rattle.lookup.proofs.frame_of.Statement.{statement}
 use Rattle.lookup.proofs.frame_of.Tie as tie
 

@@ -1,7 +1,6 @@
 -- Each turn touches the next page by touch's own promise; what the checks showed stays.
 use Prim.Native.Nat.{_-_, _<_}
 use native.Mathlib.Omega.{arith}
-use borrow.Author.Needs.{needs}
 use Rattle.machine.specs.Laws.Sizes.{fit}
 use Rattle.memory.specs.Memory.{memory}
 use Rattle.touching.specs.Fits.{Touchable}
