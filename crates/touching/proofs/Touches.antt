@@ -23,8 +23,8 @@ use Rattle.laws.specs.Passing.{touch-passes}
 use Rattle.laws.specs.Checks.{touch-check}
 use Rattle.laws.specs.Told.{early-refused}
 use Rattle.laws.specs.Touching.{seen-inside, new-inside, touch-did}
-use Rattle.lookup.specs.Ready.{Ready, SeenOf}
-use Rattle.lookup.proofs.Sights.{lookable, still-ready, ready-long, not-lent}
+use Rattle.lookup.specs.Ready.{Ready, SeenOf, frameOf}
+use Rattle.lookup.proofs.Sights.{frame-seen, lookable, still-ready, ready-long, not-lent}
 use Rattle.touching.specs.Fits.{Touchable, InReach, TakeableFrom, Top, Mappable, Mapped, Planned}
 
 -- ---- a touch that passed the checks
@@ -165,7 +165,7 @@ module _ (h : Head) (i b : ℕ) (index count table helper stack cache link : Lis
 
 -- the short way: a resident page answers its frame
 pub did-resident : (h : Head) (i b : ℕ) (index count table helper stack cache link : List ℕ) → Touchable h i b index count table helper stack cache link → (f : ℕ)
-    → SeenOf h i b index count table helper stack cache (sight-is.Mapped f)
+    → f ≡ frameOf h i b count table helper stack cache → f < h .frames
     → (ram : List ℕ) → let k = memory h index count table helper stack cache link ram in Did (touch i b) k (old f) k
-did-resident h i b index count table helper stack cache link y f seen ram =
-    did-old h i b index count table helper stack cache link y (plan-is.Old f) (record { sight = sight-is.Mapped f; seen = seen; is = refl }) ram f refl
+did-resident h i b index count table helper stack cache link y f is below ram =
+    did-old h i b index count table helper stack cache link y (plan-is.Old f) (record { sight = sight-is.Mapped f; seen = frame-seen h i b index count table helper stack cache is below; is = refl }) ram f refl

@@ -28,7 +28,7 @@ same-length-5 c = search needs
 returns : tie.Need-returns
 returns c =
     let found = c .before .before in
-    (_, did-resident _ _ _ _ _ _ _ _ _ _ (entry found .pre) _ (found .frame-of .ensures _ (c .if1 .taken)))
+    (_, did-resident _ _ _ _ _ _ _ _ _ _ (entry found .pre) _ (found .frame-of .ensures) (c .if1 .taken))
 
 touch-checked-requires : tie.Need-touch-checked-requires
 touch-checked-requires c κs = entry (c .before .before .before .before .before .before .before .before) .pre
