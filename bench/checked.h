@@ -1,0 +1,26 @@
+/* Four of the pager's calls by hand in C with the pager's checks: the arguments are those of corwystal.h. */
+#ifndef CHECKED_H
+#define CHECKED_H
+
+#include "engines.h"
+
+answer checked_touch(corwystal_head *head, uint32_t space, uint32_t page, const uint64_t *index, size_t index_len,
+                     uint32_t *count, size_t count_len, uint32_t *table, size_t table_len, uint32_t *helper,
+                     size_t helper_len, uint32_t *stack, size_t stack_len, uint32_t *cache, size_t cache_len,
+                     uint32_t *link, size_t link_len);
+
+answer checked_look(const corwystal_head *head, uint32_t space, uint32_t page, const uint64_t *index, size_t index_len,
+                    const uint32_t *count, size_t count_len, const uint32_t *table, size_t table_len,
+                    const uint32_t *helper, size_t helper_len, const uint32_t *stack, size_t stack_len,
+                    const uint32_t *cache, size_t cache_len);
+
+answer checked_release(corwystal_head *head, uint32_t space, uint32_t page, const uint64_t *index, size_t index_len,
+                       uint32_t *count, size_t count_len, const uint32_t *table, size_t table_len,
+                       const uint32_t *stack, size_t stack_len, uint32_t *link, size_t link_len);
+
+answer checked_translate(const corwystal_head *head, uint32_t space, size_t address, const uint64_t *index,
+                         size_t index_len, const uint32_t *count, size_t count_len, const uint32_t *table,
+                         size_t table_len, const uint32_t *helper, size_t helper_len, const uint32_t *stack,
+                         size_t stack_len, const uint32_t *cache, size_t cache_len);
+
+#endif

@@ -1,0 +1,190 @@
+/*
+ * Instruction counts, (a) to (d): run under callgrind, which collects only between the two marks around an action
+ * and writes one dump for each case and engine. Without callgrind it does the same and counts nothing.
+ */
+#include "driver.h"
+
+#include <stdio.h>
+#include <stdlib.h>
+#include <string.h>
+#include <valgrind/callgrind.h>
+
+enum { PLACES = 262144, FRAMES = 65536, PAGE = 4096 };
+
+static uint8_t buffer[1 << 20];
+
+static size_t counted;
+
+/* Whether the answer is of the kind that the case is about; a case that measures another thing must not pass. */
+static void expect(answer a, uint32_t kind, const char *what)
+{
+    if (a.kind != kind) {
+        fprintf(stderr, "%s: answer %u instead of %u\n", what, a.kind, kind);
+        exit(1);
+    }
+}
+
+#define COUNTED(action)                                                                                                \
+    do {                                                                                                               \
+        CALLGRIND_TOGGLE_COLLECT;                                                                                      \
+        a = (action);                                                                                                  \
+        CALLGRIND_TOGGLE_COLLECT;                                                                                      \
+        counted++;                                                                                                     \
+    } while (0)
+
+/* Ends a case: its name, its size, the engine and how many actions were counted go into the dump. */
+static void dump(const engine *e, const char *what, size_t n)
+{
+    char name[96];
+    snprintf(name, sizeof name, "%s/%zu/%s/%zu", what, n, e->name, counted);
+    CALLGRIND_DUMP_STATS_AT(name);
+    counted = 0;
+}
+
+static void fresh(const engine *e)
+{
+    expect(e->start(e->state, 1, PLACES, FRAMES, PAGE), CORWYSTAL_DONE, "start");
+    expect(e->mark(e->state, 0, 0), CORWYSTAL_DONE, "mark");
+}
+
+/* (a) A region of n pages, all resident, released. */
+static void releases(const engine *e, size_t n, int rounds)
+{
+    answer a;
+    fresh(e);
+    expect(e->mark(e->state, 0, (uint32_t)n), CORWYSTAL_DONE, "mark");
+    for (int r = 0; r < rounds; r++) {
+        for (size_t p = 0; p < n; p++)
+            expect(e->touch(e->state, 0, (uint32_t)p), CORWYSTAL_NEW, "touch");
+        COUNTED(e->release(e->state, 0, 0));
+        expect(a, CORWYSTAL_PAGES, "release");
+    }
+    dump(e, "release", n);
+}
+
+/* (b) A resident page; an absent one whose region is found after 1, 3 and 5 index words. */
+static void touches(const engine *e)
+{
+    answer a;
+    static const uint32_t from[3] = {0, 64, 4096};
+    fresh(e);
+    for (uint32_t p = 0; p < 1024; p++)
+        e->touch(e->state, 0, p * 37);
+    for (uint32_t p = 0; p < 1024; p++) {
+        COUNTED(e->touch(e->state, 0, p * 37));
+        expect(a, CORWYSTAL_OLD, "touch");
+    }
+    dump(e, "touch resident", 0);
+    for (uint32_t p = 0; p < 1024; p++) {
+        COUNTED(e->look(e->state, 0, p * 37));
+        expect(a, CORWYSTAL_RESIDENT, "look");
+    }
+    dump(e, "look resident", 0);
+    for (uint32_t l = 0; l < 3; l++) {
+        for (int r = 0; r < 16; r++) {
+            e->release(e->state, 0, 0);
+            e->touch(e->state, 0, 63);
+            for (uint32_t p = 0; p < 63; p++) {
+                COUNTED(e->touch(e->state, 0, from[l] + p));
+                expect(a, CORWYSTAL_NEW, "touch");
+                if (a.words != 2 * l + 1)
+                    exit(1);
+            }
+        }
+        dump(e, "touch absent", 2 * l + 1);
+        e->release(e->state, 0, 0);
+        for (uint32_t p = 0; p < 63; p++) {
+            COUNTED(e->look(e->state, 0, from[l] + p));
+            expect(a, CORWYSTAL_ABSENT, "look");
+        }
+        dump(e, "look absent", 2 * l + 1);
+    }
+}
+
+/* (c) Resident addresses and spans. */
+static void translates(const engine *e)
+{
+    answer a;
+    fresh(e);
+    expect(e->write(e->state, 0, 0, buffer, sizeof buffer), CORWYSTAL_DONE, "write");
+    for (size_t i = 0; i < 256; i++) {
+        COUNTED(e->translate(e->state, 0, i * PAGE + i));
+        expect(a, CORWYSTAL_AT, "translate");
+    }
+    dump(e, "translate", 0);
+}
+
+static void spans(const engine *e)
+{
+    answer a;
+    static const size_t sizes[] = {1, 16, PAGE, 65536, 1 << 20};
+    fresh(e);
+    expect(e->write(e->state, 0, 0, buffer, sizeof buffer), CORWYSTAL_DONE, "write");
+    for (size_t s = 0; s < sizeof sizes / sizeof *sizes; s++) {
+        size_t n = sizes[s], spans = sizeof buffer / n < 64 ? sizeof buffer / n : 64;
+        for (size_t i = 0; i < spans; i++) {
+            COUNTED(e->read(e->state, 0, i * (n < PAGE ? PAGE : n), buffer, n));
+            expect(a, CORWYSTAL_BYTES, "read");
+        }
+        dump(e, "read", n);
+        for (size_t i = 0; i < spans; i++) {
+            COUNTED(e->write(e->state, 0, i * (n < PAGE ? PAGE : n), buffer, n));
+            expect(a, CORWYSTAL_DONE, "write");
+        }
+        dump(e, "write", n);
+    }
+}
+
+/* A copy alone, of the same bytes. */
+static answer plain_copy(uint8_t *to, const uint8_t *from, size_t n)
+{
+    memcpy(to, from, n);
+    return (answer){CORWYSTAL_DONE, 0, 0};
+}
+
+/* What a start prepares, cleared by memset alone. */
+static answer plain_clear(const corwystal_board *b)
+{
+    memset(b->index, 0, b->index_len * sizeof *b->index);
+    memset(b->count, 0, b->count_len * sizeof *b->count);
+    return (answer){CORWYSTAL_DONE, 0, 0};
+}
+
+int main(void)
+{
+    engine e[ENGINES + 1];
+    engines_make(e, PLACES, FRAMES, (size_t)FRAMES * PAGE);
+    e[CHECKED] = checked_make(&e[PAGER]);
+    for (int i = 0; i <= CHECKED; i++) {
+        static const size_t pages[] = {1, 16, 256, 4096, 65536};
+        answer a;
+        for (size_t k = 0; k < sizeof pages / sizeof *pages; k++)
+            releases(&e[i], pages[k], pages[k] < 4096 ? 16 : 3);
+        touches(&e[i]);
+        translates(&e[i]);
+        if (i == CHECKED)
+            break;
+        spans(&e[i]);
+        for (int r = 0; r < 3; r++) {
+            COUNTED(e[i].start(e[i].state, 1, PLACES, FRAMES, PAGE));
+            expect(a, CORWYSTAL_DONE, "start");
+        }
+        dump(&e[i], "start", 0);
+    }
+    answer a;
+    answer (*volatile copy)(uint8_t *, const uint8_t *, size_t) = plain_copy;
+    answer (*volatile clear)(const corwystal_board *) = plain_clear;
+    engine plain = {.name = "plain"};
+    static const size_t sizes[] = {1, 16, PAGE, 65536, 1 << 20};
+    for (size_t s = 0; s < sizeof sizes / sizeof *sizes; s++) {
+        COUNTED(copy(buffer, e[PAGER].ram, sizes[s]));
+        dump(&plain, "read", sizes[s]);
+        COUNTED(copy(e[PAGER].ram, buffer, sizes[s]));
+        dump(&plain, "write", sizes[s]);
+    }
+    COUNTED(clear(e[PAGER].state));
+    dump(&plain, "start", 0);
+    expect(a, CORWYSTAL_DONE, "start");
+    engines_free(e);
+    return 0;
+}

@@ -1,0 +1,155 @@
+/*
+ * Times of (b), (c) and (d): each engine in turn, many rounds, so that all meet the same machine. Of one span again and
+ * again the least counts, without what only some rounds met; of spans in turn the median, since their caches differ.
+ * One line a case: what, page size, bytes, where the page comes from ("same": one span again and again; "spread": spans
+ * of 8 MiB in turn), engine, ticks.
+ */
+#include "clock.h"
+#include "driver.h"
+
+#include <stdio.h>
+#include <stdlib.h>
+#include <string.h>
+
+enum { PLACES = 262144, FRAMES = 65536, SPREAD = 8 << 20, PLAIN = ENGINES };
+
+static uint8_t *buffer, *plain_ram, *plain_tables;
+
+static engine e[ENGINES];
+
+static uint64_t empty;
+
+/* A read or a write by an engine, or a copy alone. */
+static inline void span(int engine, int writes, size_t address, size_t n)
+{
+    if (engine == PLAIN && writes)
+        memcpy(plain_ram + address, buffer, n);
+    else if (engine == PLAIN)
+        memcpy(buffer, plain_ram + address, n);
+    else if (writes)
+        e[engine].write(e[engine].state, 0, address, buffer, n);
+    else
+        e[engine].read(e[engine].state, 0, address, buffer, n);
+}
+
+enum { ROUNDS = 4000 };
+
+static uint64_t ticks[ENGINES + 1][ROUNDS];
+
+static int by_size(const void *a, const void *b)
+{
+    uint64_t x = *(const uint64_t *)a, y = *(const uint64_t *)b;
+    return x < y ? -1 : x > y;
+}
+
+static double typical(int engine, size_t rounds, int spread)
+{
+    qsort(ticks[engine], rounds, sizeof ticks[engine][0], by_size);
+    return (double)ticks[engine][spread ? rounds / 2 : 0];
+}
+
+static const char *name_of(int engine) { return engine == PLAIN ? "plain" : e[engine].name; }
+
+static void spans(size_t page, size_t n, int writes, int spread)
+{
+    size_t step = n < page ? page : n, rounds = n >= 1 << 20 ? 300 : n >= 65536 ? 2000 : ROUNDS;
+    size_t calls = n >= 65536 ? 1 : 16; /* in one reading of the clock */
+    for (size_t r = 0; r < rounds; r++)
+        for (int i = 0; i <= PLAIN; i++) {
+            size_t at = spread ? r * calls * step % SPREAD : 0;
+            uint64_t from = clock_begin();
+            for (size_t k = 0; k < calls; k++) {
+                span(i, writes, at, n);
+                at = spread ? (at + step) % SPREAD : 0;
+            }
+            ticks[i][r] = clock_end() - from - empty;
+        }
+    for (int i = 0; i <= PLAIN; i++)
+        printf("%s %zu %zu %s %s %.2f\n", writes ? "write" : "read", page, n, spread ? "spread" : "same", name_of(i),
+               typical(i, rounds, spread) / (double)calls);
+}
+
+enum { TOUCH, LOOK, TRANSLATE };
+
+/* Calls on one resident page, or on the pages of 8 MiB in turn. */
+static void calls_on(int call, int spread)
+{
+    enum { CALLS = 64 };
+    static const char *const names[] = {"touch", "look", "translate"};
+    for (uint32_t r = 0; r < ROUNDS; r++)
+        for (int i = 0; i < ENGINES; i++) {
+            uint32_t page = spread ? r * CALLS : 0;
+            uint64_t from = clock_begin();
+            for (int k = 0; k < CALLS; k++) {
+                page = spread ? (page + 1) % (SPREAD / 4096) : 0;
+                if (call == TOUCH)
+                    e[i].touch(e[i].state, 0, page);
+                else if (call == LOOK)
+                    e[i].look(e[i].state, 0, page);
+                else
+                    e[i].translate(e[i].state, 0, (size_t)page * 4096 + 5);
+            }
+            ticks[i][r] = clock_end() - from - empty;
+        }
+    for (int i = 0; i < ENGINES; i++)
+        printf("%s 4096 0 %s %s %.2f\n", names[call], spread ? "spread" : "same", name_of(i),
+               typical(i, ROUNDS, spread) / CALLS);
+}
+
+/* (d) A start at full size, against memset over what it prepares. */
+static void starts(void)
+{
+    size_t index = CORWYSTAL_INDEX_WORDS(PLACES) * sizeof(uint64_t), count = PLACES * sizeof(uint32_t);
+    enum { STARTS = 400 };
+    for (int r = 0; r < STARTS; r++)
+        for (int i = 0; i <= PLAIN; i++) {
+            uint64_t from = clock_begin();
+            if (i == PLAIN) {
+                memset(plain_tables, 0, index);
+                memset(plain_tables + (1 << 20), 0, count);
+            } else {
+                e[i].start(e[i].state, 1, PLACES, FRAMES, 4096);
+            }
+            ticks[i][r] = clock_end() - from - empty;
+        }
+    for (int i = 0; i <= PLAIN; i++)
+        printf("start 4096 %zu same %s %.2f\n", index + count, name_of(i), typical(i, STARTS, 0));
+}
+
+int main(void)
+{
+    static const size_t pages[] = {256, 4096, 65536}, sizes[] = {1, 16, 0, 65536, 1 << 20};
+    size_t ram = (size_t)FRAMES * 4096;
+    engines_make(e, PLACES, FRAMES, ram);
+    buffer = aligned_alloc(4096, 1 << 20);
+    plain_ram = aligned_alloc(4096, SPREAD + (1 << 20));
+    plain_tables = aligned_alloc(4096, 2 << 20);
+    memset(buffer, 1, 1 << 20);
+    memset(plain_ram, 2, SPREAD + (1 << 20));
+    memset(plain_tables, 3, 2 << 20);
+    empty = clock_cost();
+    printf("ticks-per-microsecond %.3f\n", clock_rate());
+    starts();
+    for (size_t p = 0; p < sizeof pages / sizeof *pages; p++) {
+        for (int i = 0; i < ENGINES; i++) {
+            size_t frames = ram / pages[p] < FRAMES ? ram / pages[p] : FRAMES;
+            e[i].start(e[i].state, 1, PLACES, (uint32_t)frames, (uint32_t)pages[p]);
+            e[i].mark(e[i].state, 0, 0);
+            for (size_t at = 0; at < SPREAD + (1 << 20); at += 1 << 20)
+                if (corwystal_refused(e[i].write(e[i].state, 0, at, buffer, 1 << 20)))
+                    return 1;
+        }
+        for (int call = TOUCH; pages[p] == 4096 && call <= TRANSLATE; call++)
+            for (int spread = 0; spread < 2; spread++)
+                calls_on(call, spread);
+        for (size_t s = 0; s < sizeof sizes / sizeof *sizes; s++)
+            for (int writes = 0; writes < 2; writes++)
+                for (int spread = 0; spread < 2; spread++)
+                    spans(pages[p], sizes[s] == 0 ? pages[p] : sizes[s], writes, spread);
+    }
+    free(buffer);
+    free(plain_ram);
+    free(plain_tables);
+    engines_free(e);
+    return 0;
+}
