@@ -45,6 +45,6 @@ hold "a resident touch" "$touch" 120 "$(instructions "touch resident/0" checked 
 hold "a resident look" "$(instructions "look resident/0" pager corwystal_look)" 120 "$(instructions "look resident/0" checked checked_look)"
 hold "a start" "$(instructions "start/0" pager corwystal_start)" 101 "$(instructions "start/0" plain plain_clear)"
 hold "a read of 1 MiB" "$(instructions "read/1048576" pager corwystal_read)" 115 "$(instructions "read/1048576" method method_read)"
-hold "a write of 1 MiB" "$(instructions "write/1048576" pager corwystal_write)" 120 "$(instructions "write/1048576" method method_write)"
+hold "a write of 1 MiB" "$(instructions "write/1048576" pager corwystal_write)" 115 "$(instructions "write/1048576" method method_write)"
 [ "$failed" = 0 ] || exit 1
 echo "costs: a release takes $release instructions with 1 page and with 65,536, a resident touch $touch"

@@ -1,4 +1,5 @@
 pub mod Surveying
+pub mod Residing
 pub mod Touching
 pub mod Storing
 pub mod Written

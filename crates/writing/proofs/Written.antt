@@ -21,10 +21,11 @@ use Rattle.lookup.specs.Ready.{Lookable}
 use Rattle.lookup.proofs.Sights.{lookable, still-ready}
 use Rattle.touching.specs.Fits.{Touchable}
 use Rattle.spans.specs.Parts.{Span}
-use Rattle.writing.specs.Surveys.{Surveyed, Settled}
+use Rattle.writing.specs.Surveys.{AllResident, Surveyed, Settled}
 use Rattle.writing.specs.Stores.{Stored}
 use Rattle.writing.specs.declared.Tally.{Tally}
 use Rattle.writing.proofs.Surveying.{settles}
+use Rattle.writing.proofs.Residing.{resident-surveyed, resident-touched, settled-none}
 
 -- the number of the check
 pub number-is : (k : Memory) (i x : ℕ) (vs : List ℕ) {no : ℕ} {inside : Bool} → no ≡ checkOf (k .head) (writeLengths k) i inside → inside ≡ spanInside (k .head) x (length vs)
@@ -79,6 +80,18 @@ module _ {k : Memory} {i x : ℕ} {vs : List ℕ} {first pages : ℕ} (s : Spann
 
   pub refused-short : {short : ℕ} → Decided k i x vs short → (short ≡ 0 → ⊥) → Did (write i x vs) k (refused short 0) k
   refused-short d not-none = write-refused i x vs k (s .passes) _ (d .late not-none) (d .is)
+
+  -- ---- where every page is resident: nothing is to be settled, and a touch of each leaves all as it is
+
+  module _ (all : AllResident (k .head) i first (first + pages) (k .count) (k .table) (k .helper) (k .stack) (k .cache)) where
+    pub resident-decided : Decided k i x vs 0
+    resident-decided =
+        decided (resident-surveyed (k .head) i first (k .index) (k .count) (k .table) (k .helper) (k .stack) (k .cache) pages all (λ b l. span-touchable b l .ready)) (settled-none (k .head))
+
+    pub resident-stay : AllTouched i first k (first + pages - first) k
+    resident-stay =
+        subst (λ (n : ℕ). AllTouched i first k n k) (sym (add-sub-cancel-left first pages))
+        (resident-touched (k .head) i first (k .index) (k .count) (k .table) (k .helper) (k .stack) (k .cache) (k .link) pages all span-touchable (k .ram))
 
   -- ---- once every page is touched
 

@@ -1,8 +1,8 @@
 -- What the survey of a span's pages says, and the number that settles a write before its first touch.
 use mathlib.Core.Path.{_≡_}
-use mathlib.Core.Bool.{true, false, cond}
+use mathlib.Core.Bool.{Bool, true, false, cond}
 use mathlib.Core.List.{List, [], _∷_}
-use Prim.Native.Nat.{ℕ, _-_}
+use Prim.Native.Nat.{ℕ, _-_, _≤_, _<_}
 use lib.Dec.{ltb}
 use lib.ListN.{length}
 use Rattle.machine.specs.Machine.{State, placeOf, anyOutside, countAbsent}
@@ -10,8 +10,18 @@ use Rattle.memory.specs.Memory.{memory}
 use Rattle.memory.specs.declared.Head.{Head}
 use Rattle.promise.specs.Holds.{Holds}
 use Rattle.promise.specs.Did.{Among}
+use Rattle.lookup.specs.Ready.{frameOf}
 use Rattle.writing.specs.declared.Tally as tally
 use Rattle.writing.specs.declared.Tally.the-variants as tally-is
+
+-- every page of space i from `first` to before `end` is resident
+abbrev pub AllResident : Head → ℕ → ℕ → ℕ → List ℕ → List ℕ → List ℕ → List ℕ → List ℕ → Type 0
+AllResident h i first end count table helper stack cache = (b : ℕ) → first ≤ b → b < end → frameOf h i b count table helper stack cache < h .frames
+
+-- r says whether P
+pub record Whether (P : Type 0) (r : Bool) : Type 0 where
+  pub yes : r ≡ true → P
+  pub no : r ≡ false → P → ⊥
 
 -- the number of a look
 abbrev pub Late : tally.Tally → Type 0

@@ -1,5 +1,6 @@
 // Writing bytes through the pager: regions and pool are settled before the first touch, then every page is
-// touched by touch's own promise, then each frame's part of the RAM is lent on and stored.
+// touched by touch's own promise, then each frame's part of the RAM is lent on and stored. A span whose pages
+// are all resident goes straight to the stores.
 use checks::check;
 use checks::span_inside;
 use copying::copy;
@@ -30,13 +31,39 @@ ghost use Rattle.laws.specs.Spans.{AllTouched};
 ghost use Rattle.lookup.specs.Ready.{Lookable};
 ghost use Rattle.touching.specs.Fits.{Touchable};
 ghost use Rattle.spans.specs.Parts.{Span, Part};
-ghost use Rattle.writing.specs.Surveys.{Surveyed, Settled};
+ghost use Rattle.writing.specs.Surveys.{AllResident, Whether, Surveyed, Settled};
 ghost use Rattle.writing.specs.Stores.{Stored};
 
 // How many pages of a span are absent, or the refusal of one that has no region.
 pub enum Tally {
     Absent(u32),
     Refused(u32),
+}
+
+// Whether the pages from first to before end are all resident: then nothing is to be settled and nothing to be mapped.
+fn all_resident(
+    head: Head,
+    space: u32,
+    first: usize,
+    end: usize,
+    count: &[u32],
+    table: &[u32],
+    helper: &[u32],
+    stack: &[u32],
+    cache: &[u32],
+) -> bool
+    requires { ⌜ ((index : List ℕ) × (first ≤ end) × (end ≤ head .pages) × Lookable head space index (now count) (now table) (now helper) (now stack) (now cache)) ⌝ }
+    ensures { λ r. ⌜ Whether (AllResident head space first end (now (count .entry)) (now (table .entry)) (now (helper .entry)) (now (stack .entry)) (now (cache .entry))) r ⌝ }
+{
+    let mut page = first;
+    while page < end {
+        let found = frame_of(head, space, page as u32, count, table, helper, stack, cache);
+        if head.frames <= found {
+            return false;
+        }
+        page += 1;
+    }
+    true
 }
 
 // Looks up the pages from first to before end.
@@ -298,6 +325,25 @@ pub fn write(
     }
     let first = page_of(head, address);
     let end = first + spans::pages(head, address, n);
+    if all_resident(head, space, first, end, count, table, helper, stack, cache) {
+        store(
+            head,
+            space,
+            address,
+            bytes,
+            index,
+            count,
+            table,
+            helper,
+            stack,
+            cache,
+            ram,
+        );
+        return WriteOut {
+            head,
+            answer: Done::Ok,
+        };
+    }
     let seen = survey(
         head,
         space,

@@ -1,4 +1,4 @@
--- The check, the survey, the touches, the stores.
+-- The check; the stores alone where every page is resident; else the survey, the touches, the stores.
 use mathlib.Core.Path.{_≡_, refl, sym, _∙_}
 use native.Mathlib.Omega.{arith}
 use borrow.Author.Needs.{needs}
@@ -6,7 +6,7 @@ use Rattle.machine.specs.Machine.{write, asked}
 use Rattle.memory.specs.Memory.{Memory, memory, sizesOf, lengths}
 use Rattle.laws.specs.Told.{early-refused}
 use Rattle.laws.specs.Writing.{write-admitted}
-use Rattle.writing.proofs.Written.{number-is, Spanned, Decided, admitted, end-inside, end-small, span-lookable, span-touchable, decided, refused-short, next-span, next-lookable, written}
+use Rattle.writing.proofs.Written.{number-is, Spanned, Decided, admitted, end-inside, end-small, span-lookable, span-touchable, decided, refused-short, resident-decided, resident-stay, next-span, next-lookable, written}
 use Rattle.writing.proofs.write.Statement.{statement}
 use Rattle.writing.proofs.write.Tie as tie
 
@@ -22,13 +22,16 @@ entry c = c .before .before .before .before .before .before .before .before .bef
 abbrev checked : tie.After-pages → tie.After-check
 checked c = c .before .before .before
 
-abbrev paged : tie.After-settled → tie.After-pages
-paged c = c .before .before .before .before .before .before .before
+abbrev resided : tie.After-all-resident → tie.After-pages
+resided c = c .before .before .before .before .before .before
 
-abbrev accepted : tie.After-touch-all → tie.Else2
+abbrev paged : tie.After-settled → tie.After-pages
+paged c = c .before .before .before .before .before .before .before .before .before .before .before .before .before .before
+
+abbrev accepted : tie.After-touch-all → tie.Else3
 accepted c = c .before .before .before .before .before .before .before
 
-abbrev touched : tie.After-store-arg6 → tie.After-touch-all
+abbrev touched : tie.After-store-arg12 → tie.After-touch-all
 touched c = c .before .before .before .before .before .before .before .before .before .before .before .before .before .before .before .before .before .before
 
 number : (c : tie.After-check)
@@ -69,11 +72,15 @@ pages-requires c κs = let a = write-admitted _ _ _ _ _ (passes (c .before)) in 
 add-end : tie.Need-add-end
 add-end c = omega (arith, end-small (span c))
 
-survey-requires : tie.Need-survey-requires
-survey-requires c κs = let s = span (c .before .before .before .before .before) in (omega arith, end-inside s, span-lookable s)
+all-resident-requires : tie.Need-all-resident-requires
+all-resident-requires c κs = let s = span (c .before .before .before .before .before) in (_, omega arith, end-inside s, span-lookable s)
 
-settled-requires : tie.Need-settled-requires
-settled-requires c κs = admitted (span (c .before .before .before .before .before .before)) .sizes-ok
+store-requires : tie.Need-store-requires
+store-requires c κs =
+    let r = c .before .before .before .before .before .before .before in
+    let s = span (resided r) in
+    let all = resident-stay s (r .all-resident .ensures .yes (c .before .before .before .before .before .before .if2 .taken)) in
+    (next-span s all, next-lookable s all)
 
 same-length : tie.Need-same-length
 same-length c = search needs
@@ -90,21 +97,21 @@ same-length-4 c = search needs
 same-length-5 : tie.Need-same-length-5
 same-length-5 c = search needs
 
-returns-2 : tie.Need-returns-2
-returns-2 c = refused-short (span (paged (c .before))) (decision (c .before)) (c .if2 .taken)
-
-touch-all-requires : tie.Need-touch-all-requires
-touch-all-requires c κs = (omega arith, span-touchable (span (paged (c .before .before .before .before .before .before .before))))
-
-store-requires : tie.Need-store-requires
-store-requires c κs =
-    let t = touched c in
-    let p = paged (accepted t .before) in
-    let all = t .touch-all .ensures (entry (checked p) .args .ram .now) in
-    (next-span (span p) all, next-lookable (span p) all)
-
 same-length-6 : tie.Need-same-length-6
 same-length-6 c = search needs
+
+returns-2 : tie.Need-returns-2
+returns-2 c =
+    let r = c .before .before .before .before .before .before .before .before .before .before in
+    let s = span (resided r) in
+    let all = r .all-resident .ensures .yes (c .before .before .before .before .before .before .before .before .before .if2 .taken) in
+    written s (resident-stay s all) (resident-decided s all) refl refl (c .before .before .store .ensures)
+
+survey-requires : tie.Need-survey-requires
+survey-requires c κs = let s = span (c .before .before .before .before .before .before .before .before .before .before .before .before) in (omega arith, end-inside s, span-lookable s)
+
+settled-requires : tie.Need-settled-requires
+settled-requires c κs = admitted (span (c .before .before .before .before .before .before .before .before .before .before .before .before .before)) .sizes-ok
 
 same-length-7 : tie.Need-same-length-7
 same-length-7 c = search needs
@@ -121,14 +128,45 @@ same-length-10 c = search needs
 same-length-11 : tie.Need-same-length-11
 same-length-11 c = search needs
 
+returns-3 : tie.Need-returns-3
+returns-3 c = refused-short (span (paged (c .before))) (decision (c .before)) (c .if3 .taken)
+
+touch-all-requires : tie.Need-touch-all-requires
+touch-all-requires c κs = (omega arith, span-touchable (span (paged (c .before .before .before .before .before .before .before))))
+
+store-requires-2 : tie.Need-store-requires-2
+store-requires-2 c κs =
+    let t = touched c in
+    let p = paged (accepted t .before) in
+    let all = t .touch-all .ensures (entry (checked p) .args .ram .now) in
+    (next-span (span p) all, next-lookable (span p) all)
+
 same-length-12 : tie.Need-same-length-12
 same-length-12 c = search needs
 
-returns-3 : tie.Need-returns-3
-returns-3 c =
+same-length-13 : tie.Need-same-length-13
+same-length-13 c = search needs
+
+same-length-14 : tie.Need-same-length-14
+same-length-14 c = search needs
+
+same-length-15 : tie.Need-same-length-15
+same-length-15 c = search needs
+
+same-length-16 : tie.Need-same-length-16
+same-length-16 c = search needs
+
+same-length-17 : tie.Need-same-length-17
+same-length-17 c = search needs
+
+same-length-18 : tie.Need-same-length-18
+same-length-18 c = search needs
+
+returns-4 : tie.Need-returns-4
+returns-4 c =
     let t = touched (c .before .before .before) in
     let p = paged (accepted t .before) in
-    written (span p) (t .touch-all .ensures (entry (checked p) .args .ram .now)) (decision (accepted t .before)) (accepted t .if2 .left) refl (c .before .before .store .ensures)
+    written (span p) (t .touch-all .ensures (entry (checked p) .args .ram .now)) (decision (accepted t .before)) (accepted t .if3 .left) refl (c .before .before .store2 .ensures)
 
 pub write-spec : {M : Type 1} → statement M
 write-spec =
@@ -140,21 +178,30 @@ write-spec =
     page-of-requires
     pages-requires
     add-end
-    survey-requires
-    settled-requires
+    all-resident-requires
+    store-requires
     same-length
     same-length-2
     same-length-3
     same-length-4
     same-length-5
-    returns-2
-    touch-all-requires
-    store-requires
     same-length-6
+    returns-2
+    survey-requires
+    settled-requires
     same-length-7
     same-length-8
     same-length-9
     same-length-10
     same-length-11
+    returns-3
+    touch-all-requires
+    store-requires-2
     same-length-12
-    returns-3)
+    same-length-13
+    same-length-14
+    same-length-15
+    same-length-16
+    same-length-17
+    same-length-18
+    returns-4)
