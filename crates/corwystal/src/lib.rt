@@ -22,7 +22,7 @@ ghost use Rattle.promise.specs.Did.{Did};
 ghost use Rattle.promise.specs.Filled.{ReadDid, RecordsDid, recordsFilled};
 ghost use Rattle.marking.specs.Steps.{sizes};
 ghost use Rattle.sizing.specs.Needed.{numbersOf, neededFor};
-ghost use Rattle.corwystal.specs.Told.{Told};
+ghost use Rattle.corwystal.specs.Encodes.{Encodes};
 
 // What a start of these sizes and the calls after it must be lent.
 #[no_mangle]
@@ -43,7 +43,7 @@ pub extern "C" fn corwystal_start(
     index: &mut [u64],
     count: &mut [u32],
 ) -> Answer
-    ensures { λ r. ⌜ Told Done doneSays (λ a.
+    ensures { λ r. ⌜ Encodes Done doneSays (λ a.
         (table helper stack cache link ram : List ℕ) →
         Did (machine.start (sizes spaces pages frames page))
         (memory (now (head .entry)) (now (index .entry)) (now (count .entry)) table helper stack cache link ram)
@@ -62,7 +62,7 @@ pub extern "C" fn corwystal_mark(
     index: &mut [u64],
     count: &[u32],
 ) -> Answer
-    ensures { λ r. ⌜ Told Done doneSays (λ a.
+    ensures { λ r. ⌜ Encodes Done doneSays (λ a.
         (table helper stack cache link ram : List ℕ) →
         Did (machine.mark space page)
         (memory (now (head .entry)) (now (index .entry)) (now (count .entry)) table helper stack cache link ram)
@@ -81,7 +81,7 @@ pub extern "C" fn corwystal_drop(
     index: &mut [u64],
     count: &[u32],
 ) -> Answer
-    ensures { λ r. ⌜ Told Done doneSays (λ a.
+    ensures { λ r. ⌜ Encodes Done doneSays (λ a.
         (table helper stack cache link ram : List ℕ) →
         Did (machine.drop space page)
         (memory (now (head .entry)) (now (index .entry)) (now (count .entry)) table helper stack cache link ram)
@@ -105,7 +105,7 @@ pub extern "C" fn corwystal_touch(
     cache: &mut [u32],
     link: &mut [u32],
 ) -> Answer
-    ensures { λ r. ⌜ Told Touched touchedSays (λ a.
+    ensures { λ r. ⌜ Encodes Touched touchedSays (λ a.
         (ram : List ℕ) →
         Did (machine.touch space page)
         (memory (now (head .entry)) (now (index .entry)) (now (count .entry)) (now (table .entry)) (now (helper .entry)) (now (stack .entry)) (now (cache .entry)) (now (link .entry)) ram)
@@ -139,7 +139,7 @@ pub extern "C" fn corwystal_look(
     stack: &[u32],
     cache: &[u32],
 ) -> Answer
-    ensures { λ r. ⌜ Told Looked lookedSays (λ a.
+    ensures { λ r. ⌜ Encodes Looked lookedSays (λ a.
         (link ram : List ℕ) →
         Did (machine.look space page)
         (memory (now (head .entry)) (now (index .entry)) (now (count .entry)) (now (table .entry)) (now (helper .entry)) (now (stack .entry)) (now (cache .entry)) link ram)
@@ -161,7 +161,7 @@ pub extern "C" fn corwystal_release(
     stack: &[u32],
     link: &mut [u32],
 ) -> Answer
-    ensures { λ r. ⌜ Told Released releasedSays (λ a.
+    ensures { λ r. ⌜ Encodes Released releasedSays (λ a.
         (helper cache ram : List ℕ) →
         Did (machine.release space page)
         (memory (now (head .entry)) (now (index .entry)) (now (count .entry)) (now (table .entry)) helper (now (stack .entry)) cache (now (link .entry)) ram)
@@ -174,7 +174,7 @@ pub extern "C" fn corwystal_release(
 // The frames in the pool. Lent nothing but the head.
 #[no_mangle]
 pub extern "C" fn corwystal_free(head: &Head) -> Answer
-    ensures { λ r. ⌜ Told Free freeSays (λ a.
+    ensures { λ r. ⌜ Encodes Free freeSays (λ a.
         (index count table helper stack cache link ram : List ℕ) →
         Did (λ _. machine.free) (memory (now (head .entry)) index count table helper stack cache link ram) (freeSays a) (memory (now (head .entry)) index count table helper stack cache link ram)) r ⌝ }
 {
@@ -194,7 +194,7 @@ pub extern "C" fn corwystal_translate(
     stack: &[u32],
     cache: &[u32],
 ) -> Answer
-    ensures { λ r. ⌜ Told Translated translatedSays (λ a.
+    ensures { λ r. ⌜ Encodes Translated translatedSays (λ a.
         (link ram : List ℕ) →
         Did (machine.translate space address)
         (memory (now (head .entry)) (now (index .entry)) (now (count .entry)) (now (table .entry)) (now (helper .entry)) (now (stack .entry)) (now (cache .entry)) link ram)
@@ -229,7 +229,7 @@ pub extern "C" fn corwystal_read(
     cache: &[u32],
     ram: &[u8],
 ) -> Answer
-    ensures { λ r. ⌜ Told Copied (λ a. copiedSays a (now (buffer .exit))) (λ a.
+    ensures { λ r. ⌜ Encodes Copied (λ a. copiedSays a (now (buffer .exit))) (λ a.
         (link : List ℕ) →
         ReadDid space address
         (memory (now (head .entry)) (now (index .entry)) (now (count .entry)) (now (table .entry)) (now (helper .entry)) (now (stack .entry)) (now (cache .entry)) link (now (ram .entry)))
@@ -270,7 +270,7 @@ pub extern "C" fn corwystal_write(
     link: &mut [u32],
     ram: &mut [u8],
 ) -> Answer
-    ensures { λ r. ⌜ Told Done doneSays (λ a.
+    ensures { λ r. ⌜ Encodes Done doneSays (λ a.
         Did (machine.write space address (now (bytes .entry)))
         (memory (now (head .entry)) (now (index .entry)) (now (count .entry)) (now (table .entry)) (now (helper .entry)) (now (stack .entry)) (now (cache .entry)) (now (link .entry)) (now (ram .entry)))
         (doneSays a)
@@ -301,7 +301,7 @@ pub extern "C" fn corwystal_list(
     index: &[u64],
     count: &[u32],
 ) -> Answer
-    ensures { λ r. ⌜ Told Listed (λ a. listedSays a (take (recordsFilled a) (now (records .exit)))) (λ a.
+    ensures { λ r. ⌜ Encodes Listed (λ a. listedSays a (take (recordsFilled a) (now (records .exit)))) (λ a.
         (table helper stack cache link ram : List ℕ) →
         RecordsDid space
         (memory (now (head .entry)) (now (index .entry)) (now (count .entry)) table helper stack cache link ram)

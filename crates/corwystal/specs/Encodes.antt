@@ -4,7 +4,7 @@ use Rattle.machine.specs.Machine.{Answer}
 use Rattle.coding.specs.Codes.{encoded, numbersOf}
 use Rattle.coding.specs.declared.Answer as coded
 
-pub record Told (A : Type 0) (says : A → Answer) (promise : A → Type 0) (r : coded.Answer) : Type 0 where
+pub record Encodes (A : Type 0) (says : A → Answer) (promise : A → Type 0) (r : coded.Answer) : Type 0 where
   pub answer : A
   pub numbers-are : numbersOf r ≡ encoded (says answer)
   pub promised : promise answer
