@@ -179,6 +179,13 @@ pub struct Memory<'a> {
     pub ram: &'a mut [u8],
 }
 
+// A call of the C entrance: what it is given, then what it is lent, each buffer as a pointer, to read or to change, and its length.
+macro_rules! lend {
+    ($call:ident($($given:expr),*; $($pointer:ident $buffer:expr),*)) => {
+        unsafe { raw::$call($($given,)* $($buffer.$pointer(), $buffer.len()),*) }
+    };
+}
+
 /// A pager on borrowed memory.
 pub struct Pager<'a> {
     head: raw::Head,
@@ -216,80 +223,31 @@ impl<'a> Pager<'a> {
             return Err(Refusal::Size);
         }
         let m = &mut self.memory;
-        let answer = unsafe {
-            raw::corwystal_start(
-                &mut self.head,
-                sizes.spaces,
-                sizes.pages,
-                sizes.frames,
-                sizes.page,
-                m.index.as_mut_ptr(),
-                m.index.len(),
-                m.count.as_mut_ptr(),
-                m.count.len(),
-            )
-        };
+        let answer = lend!(corwystal_start(&mut self.head, sizes.spaces, sizes.pages, sizes.frames, sizes.page;
+            as_mut_ptr m.index, as_mut_ptr m.count));
         answer.done()
     }
 
     /// Makes a page a region's start. The region that it cuts must have no resident page.
     pub fn mark(&mut self, space: u32, page: u32) -> Result<(), Refusal> {
         let m = &mut self.memory;
-        let answer = unsafe {
-            raw::corwystal_mark(
-                &self.head,
-                space,
-                page,
-                m.index.as_mut_ptr(),
-                m.index.len(),
-                m.count.as_ptr(),
-                m.count.len(),
-            )
-        };
+        let answer = lend!(corwystal_mark(&self.head, space, page; as_mut_ptr m.index, as_ptr m.count));
         answer.done()
     }
 
     /// Makes a start none any more; its pages join the region before it. It must have no resident page.
     pub fn drop_start(&mut self, space: u32, page: u32) -> Result<(), Refusal> {
         let m = &mut self.memory;
-        let answer = unsafe {
-            raw::corwystal_drop(
-                &self.head,
-                space,
-                page,
-                m.index.as_mut_ptr(),
-                m.index.len(),
-                m.count.as_ptr(),
-                m.count.len(),
-            )
-        };
+        let answer = lend!(corwystal_drop(&self.head, space, page; as_mut_ptr m.index, as_ptr m.count));
         answer.done()
     }
 
     /// The frame of a page, mapped if need be.
     pub fn touch(&mut self, space: u32, page: u32) -> Result<Touched, Refused> {
         let m = &mut self.memory;
-        let answer = unsafe {
-            raw::corwystal_touch(
-                &mut self.head,
-                space,
-                page,
-                m.index.as_ptr(),
-                m.index.len(),
-                m.count.as_mut_ptr(),
-                m.count.len(),
-                m.table.as_mut_ptr(),
-                m.table.len(),
-                m.helper.as_mut_ptr(),
-                m.helper.len(),
-                m.stack.as_mut_ptr(),
-                m.stack.len(),
-                m.cache.as_mut_ptr(),
-                m.cache.len(),
-                m.link.as_mut_ptr(),
-                m.link.len(),
-            )
-        };
+        let answer = lend!(corwystal_touch(&mut self.head, space, page;
+            as_ptr m.index, as_mut_ptr m.count, as_mut_ptr m.table, as_mut_ptr m.helper, as_mut_ptr m.stack,
+            as_mut_ptr m.cache, as_mut_ptr m.link));
         let frame = answer.value as u32;
         match answer.kind {
             raw::OLD => Ok(Touched::Old { frame }),
@@ -304,25 +262,8 @@ impl<'a> Pager<'a> {
     /// Whether a page is resident, and its frame.
     pub fn look(&self, space: u32, page: u32) -> Result<Looked, Refused> {
         let m = &self.memory;
-        let answer = unsafe {
-            raw::corwystal_look(
-                &self.head,
-                space,
-                page,
-                m.index.as_ptr(),
-                m.index.len(),
-                m.count.as_ptr(),
-                m.count.len(),
-                m.table.as_ptr(),
-                m.table.len(),
-                m.helper.as_ptr(),
-                m.helper.len(),
-                m.stack.as_ptr(),
-                m.stack.len(),
-                m.cache.as_ptr(),
-                m.cache.len(),
-            )
-        };
+        let answer = lend!(corwystal_look(&self.head, space, page;
+            as_ptr m.index, as_ptr m.count, as_ptr m.table, as_ptr m.helper, as_ptr m.stack, as_ptr m.cache));
         match answer.kind {
             raw::RESIDENT => Ok(Looked::Resident {
                 frame: answer.value as u32,
@@ -337,23 +278,8 @@ impl<'a> Pager<'a> {
     /// Gives back every page of the region that starts at a page, in constant time, and answers how many. The start stays.
     pub fn release(&mut self, space: u32, page: u32) -> Result<u32, Refusal> {
         let m = &mut self.memory;
-        let answer = unsafe {
-            raw::corwystal_release(
-                &mut self.head,
-                space,
-                page,
-                m.index.as_ptr(),
-                m.index.len(),
-                m.count.as_mut_ptr(),
-                m.count.len(),
-                m.table.as_ptr(),
-                m.table.len(),
-                m.stack.as_ptr(),
-                m.stack.len(),
-                m.link.as_mut_ptr(),
-                m.link.len(),
-            )
-        };
+        let answer = lend!(corwystal_release(&mut self.head, space, page;
+            as_ptr m.index, as_mut_ptr m.count, as_ptr m.table, as_ptr m.stack, as_mut_ptr m.link));
         Ok(answer.value_of(raw::PAGES)? as u32)
     }
 
@@ -366,54 +292,17 @@ impl<'a> Pager<'a> {
     /// The place in RAM of an address.
     pub fn translate(&self, space: u32, address: usize) -> Result<usize, Refusal> {
         let m = &self.memory;
-        let answer = unsafe {
-            raw::corwystal_translate(
-                &self.head,
-                space,
-                address,
-                m.index.as_ptr(),
-                m.index.len(),
-                m.count.as_ptr(),
-                m.count.len(),
-                m.table.as_ptr(),
-                m.table.len(),
-                m.helper.as_ptr(),
-                m.helper.len(),
-                m.stack.as_ptr(),
-                m.stack.len(),
-                m.cache.as_ptr(),
-                m.cache.len(),
-            )
-        };
+        let answer = lend!(corwystal_translate(&self.head, space, address;
+            as_ptr m.index, as_ptr m.count, as_ptr m.table, as_ptr m.helper, as_ptr m.stack, as_ptr m.cache));
         Ok(answer.value_of(raw::AT)? as usize)
     }
 
     /// Fills the buffer from an address on. A refusal leaves the buffer.
     pub fn read(&self, space: u32, address: usize, buffer: &mut [u8]) -> Result<(), Refusal> {
         let m = &self.memory;
-        let answer = unsafe {
-            raw::corwystal_read(
-                &self.head,
-                space,
-                address,
-                buffer.as_mut_ptr(),
-                buffer.len(),
-                m.index.as_ptr(),
-                m.index.len(),
-                m.count.as_ptr(),
-                m.count.len(),
-                m.table.as_ptr(),
-                m.table.len(),
-                m.helper.as_ptr(),
-                m.helper.len(),
-                m.stack.as_ptr(),
-                m.stack.len(),
-                m.cache.as_ptr(),
-                m.cache.len(),
-                m.ram.as_ptr(),
-                m.ram.len(),
-            )
-        };
+        let answer = lend!(corwystal_read(&self.head, space, address;
+            as_mut_ptr buffer, as_ptr m.index, as_ptr m.count, as_ptr m.table, as_ptr m.helper,
+            as_ptr m.stack, as_ptr m.cache, as_ptr m.ram));
         answer.value_of(raw::BYTES)?;
         Ok(())
     }
@@ -421,49 +310,17 @@ impl<'a> Pager<'a> {
     /// Stores the bytes from an address on, mapping pages that are absent: all or nothing.
     pub fn write(&mut self, space: u32, address: usize, bytes: &[u8]) -> Result<(), Refusal> {
         let m = &mut self.memory;
-        let answer = unsafe {
-            raw::corwystal_write(
-                &mut self.head,
-                space,
-                address,
-                bytes.as_ptr(),
-                bytes.len(),
-                m.index.as_ptr(),
-                m.index.len(),
-                m.count.as_mut_ptr(),
-                m.count.len(),
-                m.table.as_mut_ptr(),
-                m.table.len(),
-                m.helper.as_mut_ptr(),
-                m.helper.len(),
-                m.stack.as_mut_ptr(),
-                m.stack.len(),
-                m.cache.as_mut_ptr(),
-                m.cache.len(),
-                m.link.as_mut_ptr(),
-                m.link.len(),
-                m.ram.as_mut_ptr(),
-                m.ram.len(),
-            )
-        };
+        let answer = lend!(corwystal_write(&mut self.head, space, address;
+            as_ptr bytes, as_ptr m.index, as_mut_ptr m.count, as_mut_ptr m.table, as_mut_ptr m.helper,
+            as_mut_ptr m.stack, as_mut_ptr m.cache, as_mut_ptr m.link, as_mut_ptr m.ram));
         answer.done()
     }
 
     /// The regions of a space, ascending, at the front of the records; those after the last stay.
     pub fn list<'r>(&self, space: u32, records: &'r mut [Region]) -> Result<&'r [Region], Refusal> {
         let m = &self.memory;
-        let answer = unsafe {
-            raw::corwystal_list(
-                &self.head,
-                space,
-                records.as_mut_ptr(),
-                records.len(),
-                m.index.as_ptr(),
-                m.index.len(),
-                m.count.as_ptr(),
-                m.count.len(),
-            )
-        };
+        let answer = lend!(corwystal_list(&self.head, space;
+            as_mut_ptr records, as_ptr m.index, as_ptr m.count));
         let n = answer.value_of(raw::REGIONS)? as usize;
         Ok(&records[..n])
     }
