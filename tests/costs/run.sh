@@ -6,7 +6,10 @@ cd "$(dirname "${BASH_SOURCE[0]}")/../.."
 made=$(mktemp -d)
 trap 'rm -rf "$made"' EXIT
 
-rt staticlib corwystal > /dev/null 2>&1
+rt staticlib corwystal > "$made/library" 2>&1 || {
+    tail -n 5 "$made/library" >&2
+    exit 1
+}
 for unit in method cleared checked driver count; do
     gcc -std=gnu11 -O3 -Wall -Wextra -c "bench/$unit.c" -o "$made/$unit.o"
 done

@@ -44,7 +44,10 @@ broken() {
     echo "trials: ${#names[@]} wrong entrances found"
 }
 
-rt staticlib corwystal > /dev/null
+rt staticlib corwystal > "$made/library" 2>&1 || {
+    tail -n 5 "$made/library" >&2
+    fail "the library could not be built"
+}
 cc -O1 -I bindings/c -c -o "$made/header.o" "$here/header.c"
 case ${1:-gate} in
 gate)
