@@ -14,7 +14,8 @@ use Rattle.serving.specs.declared.Reply.{Reply}
 use Rattle.playing.specs.declared.Parts.{Parts}
 use Rattle.playing.specs.declared.Code.{Code}
 use Rattle.playing.specs.declared.Code.the-variants.{Call, Unreadable}
-use Rattle.playing.specs.Codes.{encoded, codeAt}
+use Rattle.coding.specs.Codes.{encoded}
+use Rattle.playing.specs.Codes.{codeAt}
 use Rattle.playing.specs.Plays.{Desk, part, withPart, withReply, called, Calls, PlayedOne, Turns}
 use Rattle.playing.specs.Plays.Turns.{none, skip, turn}
 use Rattle.playing.specs.Laws.{turns-append}

@@ -3,8 +3,7 @@ use mathlib.Core.Bool.{Bool, cond, _&&_}
 use mathlib.Core.List.{List, [], _∷_}
 use Prim.Native.Nat.{ℕ, _+_, _-_, _*_, _^_}
 use lib.Dec.{eqb, leb, ltb}
-use lib.ListN.{length, getD}
-use Rattle.machine.specs.Machine.{Answer, done, old, new, resident, absent, pages, frames, at, bytes, regions, refused}
+use lib.ListN.{getD}
 use Rattle.serving.specs.declared.Request.{Request}
 use Rattle.serving.specs.declared.Request.the-variants as request-is
 use Rattle.playing.specs.declared.Parts.{Parts}
@@ -75,20 +74,7 @@ codeAt codes wholeBytes wholeRecords j =
     decoded (getD codes (5 * j) 0) (getD codes (5 * j + 1) 0) (getD codes (5 * j + 2) 0) (getD codes (5 * j + 3) 0) (getD codes (5 * j + 4) 0)
     wholeBytes wholeRecords
 
--- ---- an answer: its kind or the number of its refusal, a value, the index words
-
-abbrev pub encoded : Answer → List ℕ
-encoded done = 16 ∷ 0 ∷ 0 ∷ []
-encoded (old f) = 17 ∷ f ∷ 0 ∷ []
-encoded (new f w) = 18 ∷ f ∷ w ∷ []
-encoded (resident f) = 19 ∷ f ∷ 0 ∷ []
-encoded (absent w) = 20 ∷ 0 ∷ w ∷ []
-encoded (pages n) = 21 ∷ n ∷ 0 ∷ []
-encoded (frames n) = 22 ∷ n ∷ 0 ∷ []
-encoded (at p) = 23 ∷ p ∷ 0 ∷ []
-encoded (bytes vs) = 24 ∷ length vs ∷ 0 ∷ []
-encoded (regions rs) = 25 ∷ length rs ∷ 0 ∷ []
-encoded (refused k w) = k ∷ 0 ∷ w ∷ []
+-- ---- an answer: three numbers, as `encoded` of crate coding has them
 
 -- where the five numbers are no call
 abbrev pub unreadable : List ℕ

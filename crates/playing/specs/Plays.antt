@@ -12,7 +12,8 @@ use Rattle.serving.specs.declared.Request.{Request}
 use Rattle.playing.specs.declared.Parts.{Parts}
 use Rattle.playing.specs.declared.Code.{Code}
 use Rattle.playing.specs.declared.Code.the-variants.{Call, Unreadable}
-use Rattle.playing.specs.Codes.{codeAt, encoded, unreadable}
+use Rattle.coding.specs.Codes.{encoded}
+use Rattle.playing.specs.Codes.{codeAt, unreadable}
 
 -- ---- the caller's buffers
 

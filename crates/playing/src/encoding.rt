@@ -6,7 +6,8 @@ ghost use mathlib.Core.Path.{_≡_};
 ghost use Prim.Native.Nat.{ℕ};
 ghost use lib.ListN.{length};
 ghost use Rattle.serving.specs.Requests.{replied};
-ghost use Rattle.playing.specs.Codes.{encoded, wordsOf};
+ghost use Rattle.coding.specs.Codes.{encoded};
+ghost use Rattle.playing.specs.Codes.{wordsOf};
 
 fn words(kind: u64, value: u64, words: u64) -> Words
     ensures { λ r. ⌜ wordsOf r ≡ kind ∷ value ∷ words ∷ [] ⌝ }
