@@ -1,9 +1,10 @@
 /*
  * Corwystal: the page manager of the collector boards, for C.
  *
- * Link target/staticlib/libcorwystal.a. It keeps no state of its own, allocates nothing, and needs of the C
- * library memcpy, memmove and memset only. docs/KERNEL.md says what to lend, what each refusal means and what
- * each call costs.
+ * Link target/bindings/libcorwystal.a, which bindings/library builds; no other build of it is fit for a kernel. It
+ * keeps no state of its own, allocates nothing, uses the general registers and no memory below the stack pointer,
+ * and needs of the C library memmove and memset only. docs/KERNEL.md says what to lend, what each refusal means, what
+ * each call costs and what interrupts may do.
  *
  * Every call may be given any numbers, any head and any buffer contents. What C cannot check is asked of the
  * caller: a pointer is aligned for its type and good for as many entries as the length after it says, it is not

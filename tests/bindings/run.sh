@@ -3,18 +3,13 @@
 set -euo pipefail
 cd "$(dirname "${BASH_SOURCE[0]}")/../.."
 bindings/build
-library=target/staticlib/libcorwystal.a
+library=target/bindings/libcorwystal.a
 
 # The library defines what the header declares, no more and no less, and so does the Rust module.
 defined=$(nm -g --defined-only "$library" | awk '$2 == "T" { print $3 }' | sort)
 declared() { grep -oE 'corwystal_[a-z]+\(' "$1" | tr -d '(' | sort -u; }
 diff <(echo "$defined") <(grep -v 'static inline' bindings/c/corwystal.h | declared /dev/stdin)
 diff <(echo "$defined") <(grep 'pub fn' bindings/rust/corwystal.rs | declared /dev/stdin)
-# It needs these three functions of C at most.
-if nm -u "$library" | awk 'NF == 2 { print $2 }' | grep -vxE 'memcpy|memmove|memset'; then
-    echo "bindings: the library needs more than memcpy, memmove and memset" >&2
-    exit 1
-fi
 
 # The headers are C++ too.
 g++ -std=c++17 -Wall -Wextra -Werror -pedantic -I bindings/c -fsyntax-only -x c++ bindings/c/corwystal_board.h

@@ -6,14 +6,11 @@ cd "$(dirname "${BASH_SOURCE[0]}")/../.."
 made=$(mktemp -d)
 trap 'rm -rf "$made"' EXIT
 
-rt staticlib corwystal > "$made/library" 2>&1 || {
-    tail -n 5 "$made/library" >&2
-    exit 1
-}
+bindings/library
 for unit in method cleared checked driver count; do
     gcc -std=gnu11 -O3 -Wall -Wextra -c "bench/$unit.c" -o "$made/$unit.o"
 done
-gcc -Wl,-z,now -o "$made/count" "$made"/*.o target/staticlib/libcorwystal.a
+gcc -Wl,-z,now -o "$made/count" "$made"/*.o target/bindings/libcorwystal.a
 valgrind --tool=callgrind --collect-atstart=no --compress-strings=no --compress-pos=no --callgrind-out-file="$made/dump" "$made/count" > "$made/log" 2>&1 || {
     cat "$made/log" >&2
     exit 1

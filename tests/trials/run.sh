@@ -16,7 +16,7 @@ fail() {
 
 # The trials over the library: name of the program, then more for rustc.
 build() {
-    rustc -O --edition 2021 "${@:2}" --check-cfg 'cfg(broken)' -L target/staticlib -l static=corwystal \
+    rustc -O --edition 2021 "${@:2}" --check-cfg 'cfg(broken)' -L target/bindings -l static=corwystal \
         -C link-arg="$made/header.o" -o "$made/$1" "$here/main.rs"
 }
 
@@ -44,10 +44,7 @@ broken() {
     echo "trials: ${#names[@]} wrong entrances found"
 }
 
-rt staticlib corwystal > "$made/library" 2>&1 || {
-    tail -n 5 "$made/library" >&2
-    fail "the library could not be built"
-}
+bindings/library
 cc -O1 -I bindings/c -c -o "$made/header.o" "$here/header.c"
 case ${1:-gate} in
 gate)

@@ -1,10 +1,9 @@
 // A copy at memory speed. Two copies by way of a local page tell the compiler that nothing overlaps, and
-// become one memmove (tests/copies holds the object code to it).
+// become one memmove (tests/object holds the object code to it).
 ghost use mathlib.Core.Path.{_≡_};
 ghost use mathlib.Core.List.{_++_};
 ghost use Prim.Native.Nat.{_≤_};
 ghost use lib.ListN.{length, drop};
-ghost use Rattle.copying.specs.Copies.{Copies};
 
 // Copies src to the front of dst, by way of page.
 fn via(src: &[u8], page: &mut [u8], dst: &mut [u8])
@@ -29,19 +28,4 @@ pub fn copy(src: &[u8], dst: &mut [u8])
 {
     let mut page = blank();
     via(src, &mut page, dst);
-}
-
-// The copy for a caller in C, who is asked nothing: whether src was copied. Its object code is what tests/copies looks at.
-#[no_mangle]
-pub extern "C" fn copying_copy(src: &[u8], dst: &mut [u8]) -> bool
-    ensures { λ r. ⌜ Copies (now (src .entry)) (now (dst .entry)) r (now (dst .exit)) ⌝ }
-{
-    if 65_536 < src.len() {
-        return false;
-    }
-    if dst.len() < src.len() {
-        return false;
-    }
-    copy(src, dst);
-    true
 }
