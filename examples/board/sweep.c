@@ -1,0 +1,393 @@
+/*
+ * An interrupt at each instruction of each call. Every scene below is a call on memory that other calls have left. It is made
+ *   once undisturbed, which gives the answer and the memory that every later time is held to;
+ *   with a trap before each instruction that leaves everything alone, which tells how many there are, which, and how deep the stack goes;
+ *   with such a trap that doesn't;
+ *   with the vector registers turned off, so that any use of one is a fault;
+ *   with a stack that is not aligned;
+ *   and then once for each of its instructions, with the timer's interrupt just before that one.
+ * Traps and interrupts come on the stack of the call, and their handler changes all that it may: the memory below the stack pointer, the vector
+ * registers, and every other register before it puts it back. A scene has passed if every answer and every byte is as undisturbed, and if the
+ * timer's interrupts came at just the instructions that the traps told of, each in its turn: so none was left out. Needs QEMU's
+ * -icount shift=0, by which the timer counts instructions.
+ */
+#include "corwystal_board.h"
+#include "machine.h"
+
+/* ---- the memory of a scene: all that a call may change, in one piece */
+
+enum { MOST_PLACES = 4097, FRAMES = 8, PAGE = 256, RECORDS = 8 };
+
+static struct memory {
+    corwystal_head head;
+    uint32_t gap; /* so that all of it is a number of 8 bytes */
+    uint64_t index_words[CORWYSTAL_INDEX_WORDS(MOST_PLACES)];
+    uint32_t link[FRAMES];
+    uint8_t ram[FRAMES * PAGE];
+    uint8_t bytes[2 * PAGE];
+    corwystal_region records[RECORDS];
+    corwystal_answer answer;
+    corwystal_needs needs;
+    uint32_t tables[5 * MOST_PLACES + 1];
+} now, before, after;
+
+static size_t used; /* bytes of it, from its start, that a scene's sizes use */
+
+static corwystal_board lent;
+
+static void copy(struct memory *to, const struct memory *from) {
+    uint64_t n = used / 8;
+    __asm__ volatile("rep movsq" : "+D"(to), "+S"(from), "+c"(n)::"memory");
+}
+
+static int same(const struct memory *one, const struct memory *other) {
+    const uint64_t *x = (const uint64_t *)one, *y = (const uint64_t *)other;
+    for (size_t k = 0; k < used / 8; k++)
+        if (x[k] != y[k]) return 0;
+    return 1;
+}
+
+/* A start with so many pages in each space, on tables full of garbage. */
+static void begin(uint32_t spaces, uint32_t pages) {
+    size_t places = (size_t)spaces * pages;
+    uint32_t *t = now.tables;
+    memset(&now, 0xA5, sizeof now);
+    used = (offsetof(struct memory, tables) + 5 * places * sizeof *t + 7) / 8 * 8;
+    lent = (corwystal_board){{0}, CORWYSTAL_LENT(now.index_words), t, places, t + places, places, t + 2 * places, places, t + 3 * places, places,
+                             t + 4 * places, places, CORWYSTAL_LENT(now.link), CORWYSTAL_LENT(now.ram)};
+    corwystal_board_start(&lent, spaces, pages, FRAMES, PAGE);
+}
+
+/* ---- what stands before the call */
+
+/* Two spaces of 64 pages: two layers of index. Space 0 has two regions, the first with 3 pages; space 1 has one from page 8 on, with 1 page. The pool has
+   2 frames that were used and 2 that never were. */
+static void two_gauges(void) {
+    begin(2, 64);
+    corwystal_board_mark(&lent, 0, 0), corwystal_board_mark(&lent, 0, 32), corwystal_board_mark(&lent, 1, 8);
+    for (uint32_t page = 0; page < 3; page++) corwystal_board_touch(&lent, 0, page);
+    for (uint32_t page = 40; page < 42; page++) corwystal_board_touch(&lent, 0, page);
+    corwystal_board_touch(&lent, 1, 10);
+    corwystal_board_release(&lent, 0, 32);
+}
+
+/* The same with a pool of frames that were never used. */
+static void fresh_pool(void) {
+    begin(2, 64);
+    corwystal_board_mark(&lent, 0, 0);
+    for (uint32_t page = 0; page < 3; page++) corwystal_board_touch(&lent, 0, page);
+}
+
+static void empty_pool(void) {
+    two_gauges();
+    for (uint32_t page = 11; page < 15; page++) corwystal_board_touch(&lent, 1, page);
+}
+
+/* One space of 64 pages: the index has one word. */
+static void one_layer(void) {
+    begin(1, 64);
+    corwystal_board_mark(&lent, 0, 0);
+    corwystal_board_touch(&lent, 0, 5);
+}
+
+/* One space of 4,097 pages with one region: three layers, and a find from the last page reads five words. */
+static void three_layers(void) {
+    begin(1, MOST_PLACES);
+    corwystal_board_mark(&lent, 0, 0);
+    corwystal_board_touch(&lent, 0, 5), corwystal_board_touch(&lent, 0, 9);
+    corwystal_board_release(&lent, 0, 0);
+    corwystal_board_touch(&lent, 0, 7);
+}
+
+/* The same with starts at both ends and no page. */
+static void two_ends(void) {
+    begin(1, MOST_PLACES);
+    corwystal_board_mark(&lent, 0, 0), corwystal_board_mark(&lent, 0, MOST_PLACES - 1);
+}
+
+static void one_end(void) {
+    two_ends();
+    corwystal_board_drop(&lent, 0, MOST_PLACES - 1);
+}
+
+static void no_starts(void) { begin(1, MOST_PLACES); }
+
+static void never_started(void) {
+    begin(2, 64);
+    lent.head = (corwystal_head){0};
+}
+
+/* Memory that somebody else has written: a pool, counts, frames that can't be. */
+static void broken_pool(void) {
+    two_gauges();
+    lent.head.first = FRAMES;
+}
+
+static void broken_counts(void) {
+    two_gauges();
+    lent.count[0] = lent.count[32] = 65;
+}
+
+static void broken_frames(void) {
+    two_gauges();
+    for (uint32_t page = 0; page < 3; page++) lent.table[page] = FRAMES;
+}
+
+static void broken_head(void) {
+    two_gauges();
+    lent.head.many = FRAMES + 1;
+}
+
+/* ---- the call */
+
+enum call { START, MARK, DROP, TOUCH, LOOK, RELEASE, FREE, TRANSLATE, READ, WRITE, LIST, SIZES };
+
+static const struct scene {
+    const char *call, *how;
+    void (*prepare)(void);
+    enum call which;
+    uint32_t space;
+    size_t at, n;  /* page or address; how many bytes or records, or a start's frames */
+    uint32_t kind; /* of its answer */
+} scenes[] = {
+    {"start", "", never_started, START, 2, 64, FRAMES, CORWYSTAL_DONE},
+    {"start", "again", two_gauges, START, 2, 64, FRAMES, CORWYSTAL_DONE},
+    {"start", "refused", two_gauges, START, 2, 64, 0, CORWYSTAL_NO_SIZE},
+    {"mark", "", two_gauges, MARK, 0, 40, 0, CORWYSTAL_DONE},
+    {"mark", "the first of a space", fresh_pool, MARK, 1, 63, 0, CORWYSTAL_DONE},
+    {"mark", "in one layer", one_layer, MARK, 0, 7, 0, CORWYSTAL_RESIDENT_PAGES},
+    {"mark", "in three layers", one_end, MARK, 0, 4096, 0, CORWYSTAL_DONE},
+    {"mark", "the first in three layers", no_starts, MARK, 0, 4096, 0, CORWYSTAL_DONE},
+    {"mark", "of a start", two_gauges, MARK, 0, 32, 0, CORWYSTAL_START_ALREADY},
+    {"mark", "over resident pages", two_gauges, MARK, 0, 1, 0, CORWYSTAL_RESIDENT_PAGES},
+    {"mark", "over the pages of three layers", three_layers, MARK, 0, 4096, 0, CORWYSTAL_RESIDENT_PAGES},
+    {"mark", "outside", two_gauges, MARK, 0, 64, 0, CORWYSTAL_NO_PAGE},
+    {"drop", "", two_gauges, DROP, 0, 32, 0, CORWYSTAL_DONE},
+    {"drop", "in three layers", two_ends, DROP, 0, 4096, 0, CORWYSTAL_DONE},
+    {"drop", "of the last in three layers", one_end, DROP, 0, 0, 0, CORWYSTAL_DONE},
+    {"drop", "of a region with pages", two_gauges, DROP, 0, 0, 0, CORWYSTAL_RESIDENT_PAGES},
+    {"drop", "of no start", two_gauges, DROP, 0, 1, 0, CORWYSTAL_NO_START},
+    {"drop", "outside", two_gauges, DROP, 2, 0, 0, CORWYSTAL_NO_SPACE},
+    {"touch", "of a resident page", two_gauges, TOUCH, 0, 2, 0, CORWYSTAL_OLD},
+    {"touch", "of an absent page", two_gauges, TOUCH, 0, 33, 0, CORWYSTAL_NEW},
+    {"touch", "behind other pages", two_gauges, TOUCH, 0, 3, 0, CORWYSTAL_NEW},
+    {"touch", "with a frame never used", fresh_pool, TOUCH, 0, 33, 0, CORWYSTAL_NEW},
+    {"touch", "in one layer", one_layer, TOUCH, 0, 63, 0, CORWYSTAL_NEW},
+    {"touch", "in three layers", three_layers, TOUCH, 0, 4096, 0, CORWYSTAL_NEW},
+    {"touch", "with an empty pool", empty_pool, TOUCH, 0, 33, 0, CORWYSTAL_NO_FRAME},
+    {"touch", "without a region", two_gauges, TOUCH, 1, 7, 0, CORWYSTAL_NO_REGION},
+    {"touch", "without a start in three layers", no_starts, TOUCH, 0, 4096, 0, CORWYSTAL_NO_REGION},
+    {"touch", "outside", two_gauges, TOUCH, 2, 0, 0, CORWYSTAL_NO_SPACE},
+    {"touch", "with a broken pool", broken_pool, TOUCH, 0, 33, 0, CORWYSTAL_NOT_OURS},
+    {"touch", "with broken counts", broken_counts, TOUCH, 0, 33, 0, CORWYSTAL_NOT_OURS},
+    {"touch", "with broken frames", broken_frames, TOUCH, 0, 1, 0, CORWYSTAL_NOT_OURS},
+    {"look", "at a resident page", two_gauges, LOOK, 0, 2, 0, CORWYSTAL_RESIDENT},
+    {"look", "at an absent page", two_gauges, LOOK, 0, 63, 0, CORWYSTAL_ABSENT},
+    {"look", "in one layer", one_layer, LOOK, 0, 63, 0, CORWYSTAL_ABSENT},
+    {"look", "in three layers", three_layers, LOOK, 0, 4096, 0, CORWYSTAL_ABSENT},
+    {"look", "without a region", two_gauges, LOOK, 1, 7, 0, CORWYSTAL_NO_REGION},
+    {"look", "outside", two_gauges, LOOK, 0, 64, 0, CORWYSTAL_NO_PAGE},
+    {"look", "with broken frames", broken_frames, LOOK, 0, 1, 0, CORWYSTAL_NOT_OURS},
+    {"release", "", two_gauges, RELEASE, 0, 0, 0, CORWYSTAL_PAGES},
+    {"release", "onto an unlinked pool", fresh_pool, RELEASE, 0, 0, 0, CORWYSTAL_PAGES},
+    {"release", "of an empty region", two_gauges, RELEASE, 0, 32, 0, CORWYSTAL_PAGES},
+    {"release", "of no start", two_gauges, RELEASE, 0, 1, 0, CORWYSTAL_NO_START},
+    {"release", "outside", two_gauges, RELEASE, 2, 0, 0, CORWYSTAL_NO_SPACE},
+    {"release", "with broken counts", broken_counts, RELEASE, 0, 0, 0, CORWYSTAL_NOT_OURS},
+    {"release", "with broken frames", broken_frames, RELEASE, 0, 0, 0, CORWYSTAL_NOT_OURS},
+    {"free", "", two_gauges, FREE, 0, 0, 0, CORWYSTAL_FRAMES},
+    {"free", "before a start", never_started, FREE, 0, 0, 0, CORWYSTAL_NO_SIZE},
+    {"free", "with a broken head", broken_head, FREE, 0, 0, 0, CORWYSTAL_NOT_OURS},
+    {"translate", "", two_gauges, TRANSLATE, 0, 2 * PAGE + 9, 0, CORWYSTAL_AT},
+    {"translate", "of an absent page", two_gauges, TRANSLATE, 0, 33 * PAGE, 0, CORWYSTAL_NOT_RESIDENT},
+    {"translate", "without a region", two_gauges, TRANSLATE, 1, 0, 0, CORWYSTAL_NO_REGION},
+    {"translate", "outside", two_gauges, TRANSLATE, 0, 64 * PAGE, 0, CORWYSTAL_NO_PAGE},
+    {"translate", "with broken frames", broken_frames, TRANSLATE, 0, 0, 0, CORWYSTAL_NOT_OURS},
+    {"read", "over two pages", two_gauges, READ, 0, 2 * PAGE - 8, 16, CORWYSTAL_BYTES},
+    {"read", "of no byte", two_gauges, READ, 0, 64 * PAGE, 0, CORWYSTAL_BYTES},
+    {"read", "into an absent page", two_gauges, READ, 0, 3 * PAGE - 8, 16, CORWYSTAL_NOT_RESIDENT},
+    {"read", "without a region", two_gauges, READ, 1, 0, 16, CORWYSTAL_NO_REGION},
+    {"read", "outside", two_gauges, READ, 0, 64 * PAGE, 1, CORWYSTAL_NO_PAGE},
+    {"read", "with broken frames", broken_frames, READ, 0, 0, 16, CORWYSTAL_NOT_OURS},
+    {"write", "over two resident pages", two_gauges, WRITE, 0, 2 * PAGE - 8, 16, CORWYSTAL_DONE},
+    {"write", "over a resident and an absent page", two_gauges, WRITE, 0, 3 * PAGE - 8, 16, CORWYSTAL_DONE},
+    {"write", "over three absent pages", two_gauges, WRITE, 0, 33 * PAGE - 4, PAGE + 8, CORWYSTAL_DONE},
+    {"write", "of no byte", two_gauges, WRITE, 0, 64 * PAGE, 0, CORWYSTAL_DONE},
+    {"write", "with an empty pool", empty_pool, WRITE, 0, 3 * PAGE - 8, 16, CORWYSTAL_NO_FRAME},
+    {"write", "without a region", two_gauges, WRITE, 1, 0, 16, CORWYSTAL_NO_REGION},
+    {"write", "outside", two_gauges, WRITE, 0, 64 * PAGE, 1, CORWYSTAL_NO_PAGE},
+    {"write", "with a broken pool", broken_pool, WRITE, 0, 33 * PAGE, 16, CORWYSTAL_DONE},
+    {"write", "with broken counts", broken_counts, WRITE, 0, 33 * PAGE, 16, CORWYSTAL_DONE},
+    {"write", "with broken frames", broken_frames, WRITE, 0, 0, 16, CORWYSTAL_NOT_OURS},
+    {"list", "", two_gauges, LIST, 0, 0, RECORDS, CORWYSTAL_REGIONS},
+    {"list", "without room", two_gauges, LIST, 0, 0, 1, CORWYSTAL_NO_ROOM},
+    {"list", "of no region", no_starts, LIST, 0, 0, RECORDS, CORWYSTAL_REGIONS},
+    {"list", "in three layers", two_ends, LIST, 0, 0, RECORDS, CORWYSTAL_REGIONS},
+    {"list", "outside", two_gauges, LIST, 2, 0, RECORDS, CORWYSTAL_NO_SPACE},
+    {"sizes", "", never_started, SIZES, 2, 0, 0, 0},
+    {"sizes", "refused", never_started, SIZES, 65, 0, 0, 0},
+};
+
+enum { SCENES = sizeof scenes / sizeof scenes[0] };
+static const struct scene *scene;
+
+static corwystal_answer answer_of(const struct scene *s) {
+    uint32_t page = (uint32_t)s->at;
+    switch (s->which) {
+    case START: return corwystal_board_start(&lent, s->space, page, (uint32_t)s->n, PAGE);
+    case MARK: return corwystal_board_mark(&lent, s->space, page);
+    case DROP: return corwystal_board_drop(&lent, s->space, page);
+    case TOUCH: return corwystal_board_touch(&lent, s->space, page);
+    case LOOK: return corwystal_board_look(&lent, s->space, page);
+    case RELEASE: return corwystal_board_release(&lent, s->space, page);
+    case FREE: return corwystal_board_free(&lent);
+    case TRANSLATE: return corwystal_board_translate(&lent, s->space, s->at);
+    case READ: return corwystal_board_read(&lent, s->space, s->at, now.bytes, s->n);
+    case WRITE: return corwystal_board_write(&lent, s->space, s->at, now.bytes, s->n);
+    case LIST: return corwystal_board_list(&lent, s->space, now.records, s->n);
+    default: now.needs = corwystal_sizes(s->space, 64, FRAMES, PAGE); return (corwystal_answer){0, 0, 0};
+    }
+}
+
+static void make_call(void) { now.answer = answer_of(scene); }
+
+/* ---- a call, disturbed, and what became of it */
+
+static uint64_t wrong, interrupts;
+
+static void put_back(void) {
+    copy(&now, &before);
+    lent.head = now.head;
+}
+
+/* Says what went wrong, the first few times of a scene. */
+static void judge(const char *how) {
+    now.head = lent.head;
+    if (same(&now, &after)) return;
+    if (wrong++ < 3)
+        say("sweep: %s %s, %s, the last at +%x of the library: answer %u for %u, value %u for %u\n", scene->call, scene->how, how,
+            last_rip - (uint64_t)pager_from, (uint64_t)now.answer.kind, (uint64_t)after.answer.kind, now.answer.value, after.answer.value);
+}
+
+/* Makes the call by a way of making it; a fault comes back here. */
+static void disturbed(const char *how, void (*way)(void)) {
+    static struct place here;
+    put_back();
+    if (save(&here)) {
+        interrupts_off();
+        if (wrong++ < 3) say("sweep: %s %s, %s: trap %u at +%x of the library\n", scene->call, scene->how, how, fault.vector, fault.rip - (uint64_t)pager_from);
+        return;
+    }
+    on_fault = &here;
+    way();
+    on_fault = 0;
+    judge(how);
+}
+
+/* ---- each instruction that the call runs, as the traps tell it */
+
+enum { MOST_STEPS = 16384 };
+static uint64_t steps[MOST_STEPS];
+static uint64_t many, inside, entry_stack, deepest;
+
+static int in_library(uint64_t rip) { return rip >= (uint64_t)pager_from && rip < (uint64_t)pager_to; }
+static int in_call(uint64_t rip) { return rip >= (uint64_t)pager_from && rip < (uint64_t)copies_to; }
+
+static void note_step(const struct trap_frame *f) {
+    if (!in_call(f->rip) || many == MOST_STEPS) return;
+    if (!many) entry_stack = deepest = f->rsp;
+    if (f->rsp < deepest) deepest = f->rsp;
+    inside += (uint64_t)in_library(f->rip);
+    steps[many++] = f->rip;
+}
+
+static void note_steps(void) {
+    many = inside = 0;
+    step_each(note_step, 1);
+    make_call();
+    step_each(0, 0);
+}
+
+static void pass(const struct trap_frame *f) { (void)f; }
+
+static void trap_each(void) {
+    step_each(pass, 0);
+    make_call();
+    step_each(0, 0);
+}
+
+static void without_vectors(void) {
+    vector_registers(0);
+    make_call();
+    vector_registers(1);
+}
+
+static void off_by_8(void) { call_off_by_8(make_call); }
+
+/* ---- the timer's interrupt at each of them */
+
+static uint32_t delay;
+
+static void with_interrupt(void) {
+    uint64_t n = aimed;
+    interrupts_on();
+    timer_aim(delay);
+    make_call();
+    while (aimed == n) {}
+    interrupts_off();
+}
+
+static uint8_t met[16384]; /* instructions of the library at which an interrupt came, by their place */
+
+/* The delays go up by one instruction: so interrupts come at the first, the second, .. instruction of the call. Answers how many were met in turn. */
+static uint64_t interrupt_each(void) {
+    uint64_t turn = 0;
+    for (delay = 1; turn < many && delay < many + 400; delay++) {
+        disturbed("with an interrupt", with_interrupt);
+        if (last_rip != steps[turn]) continue; /* before the call */
+        if (in_library(last_rip)) met[last_rip - (uint64_t)pager_from] = 1;
+        turn++;
+    }
+    return turn;
+}
+
+/* A line for each scene: call, how; instructions of the library, bytes of stack, interrupts. */
+static int play(const struct scene *s) {
+    scene = s;
+    wrong = 0;
+    s->prepare();
+    now.head = lent.head;
+    copy(&before, &now);
+    make_call();
+    now.head = lent.head;
+    copy(&after, &now);
+    if (after.answer.kind != s->kind) {
+        say("sweep: %s %s answers %u, not %u\n", s->call, s->how, (uint64_t)after.answer.kind, (uint64_t)s->kind);
+        return 0;
+    }
+    wrecking = 0;
+    disturbed("step by step", note_steps);
+    wrecking = 1;
+    disturbed("with a trap before each instruction", trap_each);
+    step_each(0, 0);
+    disturbed("without vector registers", without_vectors);
+    vector_registers(1);
+    disturbed("with a stack off by 8", off_by_8);
+    uint64_t otherwise = wrong;
+    uint64_t turns = interrupt_each();
+    interrupts += turns;
+    say("scene %s: %s: %u instructions, %u bytes of stack, %u interrupts, %u wrong, %u otherwise wrong\n", s->call, s->how, inside,
+        entry_stack - deepest + 8, turns, wrong - otherwise, otherwise);
+    if (turns != many) say("sweep: %s %s: no interrupt at %u of its %u instructions\n", s->call, s->how, many - turns, many);
+    return !wrong && turns == many;
+}
+
+_Noreturn void sweep(void) {
+    int good = 1;
+    uint64_t places = 0;
+    vector_registers(1);
+    for (size_t k = 0; k < SCENES; k++) good &= play(&scenes[k]);
+    for (size_t k = 0; k < sizeof met; k++) places += met[k];
+    say("sweep: %u scenes, %u interrupts, at %u instructions of the library: %s\n", (uint64_t)SCENES, interrupts, places, good ? "good" : "BAD");
+    leave(good ? 0 : 1);
+}
