@@ -1,5 +1,6 @@
 -- The proofs of the demands, one idea a file.
 pub mod Parts
+pub mod Unseen
 pub mod Cut
 pub mod Agree
 pub mod Lent
@@ -7,3 +8,4 @@ pub mod Step
 pub mod Run
 pub mod Next
 pub mod Byte
+pub mod Filled

@@ -1,4 +1,5 @@
 pub mod History
 pub mod Demands
+pub mod Outside
 pub mod Laws
 pub mod Theorems

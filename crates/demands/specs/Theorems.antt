@@ -1,18 +1,23 @@
--- The three demands, proved.
+-- The three demands, and what holds when bytes reach the RAM from outside, proved.
 use mathlib.Core.Path.{refl, sym, ap, _∙_}
 use mathlib.Core.List.{List}
 use Prim.Native.Nat.{ℕ}
 use lib.ListN.{length, getD}
-use Rattle.machine.specs.Machine.{Lent, Call, Answer, recordsOf}
+use Rattle.machine.specs.Machine.{State, Lent, Call, translate, Answer, at, withRam, recordsOf, begun, afterAll}
+use Rattle.machine.specs.Claims.{Same}
 use Rattle.machine.specs.Laws.Holders.{one-holder, pool-and-resident, same-byte}
 use Rattle.machine.specs.Laws.Records.{listed-pages}
 use Rattle.machine.specs.Laws.Bytes.{read-there}
 use Rattle.memory.specs.Memory.{Memory, lengths}
+use Rattle.promise.specs.Holds.{Holds}
 use Rattle.promise.specs.Did.{still, Did}
+use Rattle.demands.specs.History.{calls}
 use Rattle.demands.specs.Demands.{Demand1, Demand1Read, Demand1List, machineAt, Demand2, Demand3For}
-use Rattle.demands.specs.Laws.Run.{sequence-follows}
+use Rattle.demands.specs.Laws.Run.{begins-holding, sequence-follows}
 use Rattle.demands.specs.Laws.Next.{translate-next, translate-resident, free-next, list-next, read-asks}
 use Rattle.demands.specs.Laws.Byte.{stored-there}
+use Rattle.demands.specs.Laws.Filled.{course-follows}
+use Rattle.demands.specs.Outside.{made, afterIn, OutsideFor}
 
 pub demand-1 : (c : Lent → Call) (k : Memory) (a : Answer) (k′ : Memory) → Did c k a k′ → Demand1 c k a k′
 demand-1 c k a k′ d = record { numbers = d .asks; refusals = λ n w e. d .stays (ap still e) }
@@ -26,6 +31,13 @@ demand-1-list i k r slice slice′ d = d .kept
 pub demand-2 : Demand2
 demand-2 z k k′ es q = sequence-follows z k k′ es q .answers-are
 
+-- no two resident addresses share a byte
+addresses-apart : (m : State) (k : Memory) → Holds m k → (i x j y p : ℕ) (a b : Memory) → Did (translate i x) k (at p) a → Did (translate j y) k (at p) b → Same i x j y
+addresses-apart m k H i x j y p a b d e =
+    let r = translate-resident m k H i x p a d in
+    let t = translate-resident m k H j y p b e in
+    same-byte m (H .sound) i x j y p (r .here) (t .here) (r .is-at) (t .is-at)
+
 pub demand-3 : Demand3For
 demand-3 z k k′ es q =
     let m = machineAt z k es in
@@ -33,10 +45,7 @@ demand-3 z k k′ es q =
     let s = H .sound in
     record {
       translated = translate-next m k′ H;
-      apart = λ i x j y p a b d e.
-          let r = translate-resident m k′ H i x p a d in
-          let t = translate-resident m k′ H j y p b e in
-          same-byte m s i x j y p (r .here) (t .here) (r .is-at) (t .is-at);
+      apart = addresses-apart m k′ H;
       held = one-holder m s;
       counted = λ a k″ d. (length (m .pool), free-next m k′ H a k″ d, refl, pool-and-resident m s);
       listed = λ room a k″ d. (recordsOf m, λ i h. list-next m k′ H i (room i) h (d i h .0) (a i) (k″ i) (d i h .1), listed-pages m s);
@@ -50,4 +59,18 @@ demand-3 z k k′ es q =
           let b′ = t .stored in
           (b′ .place, translate-next m k′ H i x (b′ .place) (t .here) (b′ .is-at) a k″ d, ap (λ (ram : List ℕ). getD ram (b′ .place) 0) (H .ram-is) ∙ b′ .is);
       constant = λ i b a k″ d. d .bounds;
+    }
+
+pub outside-writes : OutsideFor
+outside-writes z k k′ ts q =
+    let m = begun z (k .ram) in
+    let f = course-follows m (k .ram) (begins-holding z k (q .lent) (q .started) (q .accepted)) (q .course) in
+    let H = f .holds in
+    let n = afterIn m ts in
+    record {
+      answers-are = f .answers-are;
+      holds = H;
+      answers-alike = f .answers-alike;
+      state-alike = f .state-alike ∙ ap (withRam (afterAll m (calls (made ts)))) (sym (H .ram-is));
+      apart = addresses-apart n k′ H;
     }

@@ -1,6 +1,6 @@
 -- A machine whose RAM is cut to a front part of at least F x P bytes does the same, and the rest put back makes it the machine again.
 use mathlib.Core.Path.{_≡_, refl, sym, ap, ap₂, _∙_, fun-ext}
-use mathlib.Core.Bool.{Bool, true, false, _||_}
+use mathlib.Core.Bool.{Bool, true, false}
 use mathlib.Core.Option.{Option, none, some}
 use mathlib.Core.List.{List, [], _∷_, _++_, append-nil}
 use Prim.Native.Nat.{ℕ, zero, suc, _+_, _*_, _≤_}
@@ -8,11 +8,12 @@ use native.Mathlib.Omega.{arith}
 use lib.ListN.{length, take, drop, length-set, take-append-drop}
 use lib.Seq.{length-take-le, take-length, drop-length, getD-take, set-append-left}
 use Rattle.sequence.specs.Lists.{tabulate}
-use Rattle.machine.specs.Machine.{Sizes, State, Lent, Page, outside, unmapped, mapped, pageOf, wordsAt, pageOfAddress, spanPages, ramAt, Call, read, write, asked, Answer, bytes, Out, tell, touchNew, touchPage, touchAt, touchAll, absence, orElse, firstAbsence, spanAbsence, byteIn, byteAt, readIf, isOutside, anyOutside, isUnmapped, countAbsent, storeIn, stored, withRam, storeAll, spanTouched, spanOutside, spanShort, writeIf, accepted, unless, step, answer, after}
+use Rattle.machine.specs.Machine.{Sizes, State, Lent, pageOfAddress, spanPages, ramAt, Call, read, write, asked, Answer, bytes, Out, tell, spanAbsence, byteIn, byteAt, readIf, storeIn, stored, withRam, storeAll, spanTouched, spanOutside, spanShort, writeIf, accepted, unless, step, answer, after}
 use Rattle.machine.specs.Claims.{Sound}
 use Rattle.machine.specs.Laws.Steps.{sound-all-touched}
 use Rattle.machine.specs.Laws.Stays.{grown-all-touched}
 use Rattle.machine.specs.Laws.Holders.{ram-below}
+use Rattle.demands.specs.Laws.Unseen.{absence-any, outside-any, absent-any, touched-any, stored-any}
 
 -- the machine with its RAM cut after n bytes, and with bytes put behind its RAM
 abbrev pub cut : ℕ → State → State
@@ -39,45 +40,7 @@ same-whole n m c e =
       mends = ap₂ (λ (x : State) (r : List ℕ). mended (after x c) r) whole rest ∙ ap (withRam (after m c)) (append-nil (after m c .ram));
     }
 
--- ---- what doesn't look at the RAM
-
-module _ (ram : List ℕ) where
-  absence-any : (m : State) (p k : ℕ) → firstAbsence (withRam m ram) p k ≡ firstAbsence m p k
-  unfolding firstAbsence
-  absence-any m p zero = refl
-  absence-any m p (suc k) = ap (orElse (absence (pageOf m p))) (absence-any m (suc p) k)
-
-  outside-any : (m : State) (p k : ℕ) → anyOutside (withRam m ram) p k ≡ anyOutside m p k
-  unfolding anyOutside
-  outside-any m p zero = refl
-  outside-any m p (suc k) = ap (λ (b : Bool). isOutside (pageOf m p) || b) (outside-any m (suc p) k)
-
-  absent-any : (m : State) (p k : ℕ) → countAbsent (withRam m ram) p k ≡ countAbsent m p k
-  unfolding countAbsent
-  absent-any m p zero = refl
-  absent-any m p (suc k) = ap (λ (j : ℕ). isUnmapped (pageOf m p) + j) (absent-any m (suc p) k)
-
-  new-any : (m : State) (a p w : ℕ) (pool : List ℕ) → touchNew (withRam m ram) a p w pool .after ≡ withRam (touchNew m a p w pool .after) ram
-  new-any m a p w [] = refl
-  new-any m a p w (f ∷ rest) = refl
-
-  touch-any : (m : State) (p w : ℕ) (x : Page) → touchPage (withRam m ram) p w x .after ≡ withRam (touchPage m p w x .after) ram
-  touch-any m p w outside = refl
-  touch-any m p w (unmapped a) = new-any m a p w (m .pool)
-  touch-any m p w (mapped a f) = refl
-
-  touched-any : (m : State) (p k : ℕ) → touchAll (withRam m ram) p k ≡ withRam (touchAll m p k) ram
-  unfolding touchAll
-  touched-any m p zero = refl
-  touched-any m p (suc k) =
-      ap (λ (x : State). touchAll x (suc p) k) (touch-any m p (wordsAt m p) (pageOf m p)) ∙ touched-any (touchAt m p .after) (suc p) k
-
-  stored-any : (m : State) (i x : ℕ) (vs part : List ℕ) → stored (withRam m ram) i x vs part ≡ stored m i x vs part
-  unfolding stored
-  stored-any m i x [] part = refl
-  stored-any m i x (v ∷ vs) part = stored-any m i (suc x) vs (storeIn part (ramAt m i x) v)
-
--- ---- what does
+-- ---- what looks at the RAM
 
 module _ (m : State) (s : Sound m) where
   byte-front : (n : ℕ) → m .sizes .frames * m .sizes .page ≤ n → (i x : ℕ) → byteAt (cut n m) i x ≡ byteAt m i x

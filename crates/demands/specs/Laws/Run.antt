@@ -3,11 +3,11 @@ use mathlib.Core.Path.{_≡_, refl, ap₂}
 use mathlib.Core.List.{List, [], _∷_, _++_, map}
 use Prim.Native.Nat.{ℕ, zero, suc}
 use native.Mathlib.Omega.{arith}
-use Rattle.machine.specs.Machine.{Sizes, State, Call, start, done, begun, answers, after, afterAll}
+use Rattle.machine.specs.Machine.{Sizes, State, Lent, Call, start, done, begun, answers, after, afterAll}
 use Rattle.memory.specs.Memory.{Memory}
 use Rattle.promise.specs.Holds.{Holds}
 use Rattle.promise.specs.Did.{Exactly}
-use Rattle.demands.specs.History.{Event, played, calls, Run, none, next}
+use Rattle.demands.specs.History.{Event, played, calls, Step, Run, none, next}
 use Rattle.demands.specs.Demands.{Sequence}
 use Rattle.demands.specs.Laws.Step.{told, begun-holds, step-follows}
 
@@ -33,10 +33,13 @@ pub accepted-asks : (j : ℕ) (c : Call) → Exactly j c done → j ≡ 0
 accepted-asks zero c e = refl
 accepted-asks (suc j) c e = absurd (let z : _≡_ {A = ℕ} 0 1 = cc in omega arith)
 
+pub begins-holding : (z : Sizes) (k : Memory) (l : Lent) (k′ : Memory) → Step k (record { call = start z; lent = l; answer = done }) k′ → Holds (begun z (k .ram)) k′
+begins-holding z k l k′ s =
+    let t = told k _ _ s in
+    rw (s .after-is) (begun-holds k l done _ z l (accepted-asks _ _ (t .asks)) t .1)
+
 pub started-holds : (z : Sizes) (k k′ : Memory) (es : List Event) → (q : Sequence z k es k′) → Holds (begun z (k .ram)) (q .started)
-started-holds z k k′ es q =
-    let t = told k _ _ (q .accepted) in
-    rw (q .accepted .after-is) (begun-holds k (q .lent) done _ z (q .lent) (accepted-asks _ _ (t .asks)) t .1)
+started-holds z k k′ es q = begins-holding z k (q .lent) (q .started) (q .accepted)
 
 pub sequence-follows : (z : Sizes) (k k′ : Memory) (es : List Event) → Sequence z k es k′ → Followed (begun z (k .ram)) es k′
 sequence-follows z k k′ es q = run-follows (begun z (k .ram)) (started-holds z k k′ es q) (q .run)
