@@ -4,11 +4,12 @@ use memory::Head;
 use session::answer_line;
 ghost use Prim.Native.Nat.{_≤_};
 
-// The head, where the line that is not whole yet begins, and whether more of it came than is kept.
+// The head, where the line that is not whole yet begins, whether more of it came than is kept, and whether all answers were written.
 pub struct Progress {
     pub head: Head,
     pub from: usize,
     pub is_long: bool,
+    pub is_written: bool,
 }
 
 // The head, and where the answers end.
@@ -17,19 +18,27 @@ pub struct Step {
     pub at: usize,
 }
 
-fn write(out: &[u8], at: usize) {
-    if at <= out.len() {
-        io::write_all(1, &out[..at]);
+// Writes the answers before `at`; no place of the buffer stands for answers that were lost. Whoever plays a script hears of it.
+fn write(out: &[u8], at: usize) -> bool {
+    if out.len() < at {
+        return false;
     }
+    if io::write_all(1, &out[..at]) {
+        return true;
+    }
+    io::write_all(2, b"play: its output could not be written\n");
+    false
 }
 
-// Answers are written when no other may fit.
+// Answers are written when no other may fit; if they are lost, no more are laid down.
 fn written(out: &[u8], at: usize) -> usize {
     if at < 65_535 {
         return at;
     }
-    write(out, at);
-    0
+    if write(out, at) {
+        return 0;
+    }
+    usize::MAX
 }
 
 fn end_line(out: &mut [u8], at: usize) -> usize {
@@ -142,11 +151,12 @@ pub(crate) fn answer_lines(
         is_long = false;
         from = end + 1;
     }
-    write(out, at);
+    let is_written = write(out, at);
     Progress {
         head: next,
         from,
         is_long,
+        is_written,
     }
 }
 

@@ -27,7 +27,12 @@ pub struct Turn {
     pub is_more: bool,
 }
 
-// Reads, answers the lines that are whole, and keeps what is left.
+// What is kept of a line, unless answers were lost: then nothing more is answered.
+fn kept_if(is_written: bool, left: usize) -> usize {
+    if is_written { left } else { 0 }
+}
+
+// Reads, answers the lines that are whole, and keeps what is left. Lost answers end the session.
 fn take_turn(
     head: Head,
     kept: usize,
@@ -72,7 +77,7 @@ fn take_turn(
         ram,
     );
     let next = done.head;
-    let left = input::keep(input, done.from, n);
+    let left = kept_if(done.is_written, input::keep(input, done.from, n));
     if input.len() <= left {
         return Turn {
             head: next,
@@ -85,7 +90,7 @@ fn take_turn(
         head: next,
         kept: left,
         is_long: done.is_long,
-        is_more: true,
+        is_more: done.is_written,
     }
 }
 

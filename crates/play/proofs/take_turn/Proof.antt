@@ -19,8 +19,11 @@ answer-lines-requires c κs = search needs
 keep-requires : tie.Need-keep-requires
 keep-requires c κs = search needs
 
+kept-if-requires : tie.Need-kept-if-requires
+kept-if-requires c κs = search needs
+
 same-length-2 : tie.Need-same-length-2
-same-length-2 c = c .before .before .input2 .given ∙ c .before .before .before .before .before .before .before .before .before .before .before .before .before .before .before .before .before .before .before .before .before .before .before .before .before .before .before .before .before .before .before .before .before .before .before .before .before .before .before .before .before .before .before .input .given
+same-length-2 c = c .before .before .before .input2 .given ∙ c .before .before .before .before .before .before .before .before .before .before .before .before .before .before .before .before .before .before .before .before .before .before .before .before .before .before .before .before .before .before .before .before .before .before .before .before .before .before .before .before .before .before .before .before .input .given
 
 same-length-3 : tie.Need-same-length-3
 same-length-3 c = search needs
@@ -59,7 +62,7 @@ returns-2 : tie.Need-returns-2
 returns-2 c = search needs
 
 same-length-14 : tie.Need-same-length-14
-same-length-14 c = c .before .before .input2 .given ∙ c .before .before .before .before .before .before .before .before .before .before .before .before .before .before .before .before .before .before .before .before .before .before .before .before .before .before .before .before .before .before .before .before .before .before .before .before .before .before .before .before .before .before .before .input .given
+same-length-14 c = c .before .before .before .input2 .given ∙ c .before .before .before .before .before .before .before .before .before .before .before .before .before .before .before .before .before .before .before .before .before .before .before .before .before .before .before .before .before .before .before .before .before .before .before .before .before .before .before .before .before .before .before .before .input .given
 
 same-length-15 : tie.Need-same-length-15
 same-length-15 c = search needs
@@ -106,6 +109,7 @@ take-turn-spec =
     returns
     answer-lines-requires
     keep-requires
+    kept-if-requires
     same-length-2
     same-length-3
     same-length-4
