@@ -62,9 +62,11 @@ static void play(int ascending)
         /* page by page, and all is released before a space begins anew */
         if (rising[space] == pages) {
             rising[space] = 0;
-            for (uint32_t p = 0; p < pages; p++)
+            for (uint32_t p = 0; p < pages; p++) {
                 for (int i = 0; i < ENGINES; i++)
-                    e[i].release(e[i].state, space, p);
+                    r[i] = e[i].release(e[i].state, space, p);
+                same("release", space, p, r, 1);
+            }
         }
         page = rising[space];
         rising[space] += which < 8;
@@ -156,10 +158,9 @@ int main(void)
             memset(rising, 0, sizeof rising);
             for (int i = 0; i < ENGINES; i++) {
                 memset(e[i].ram, 7, FRAMES * PAGE);
-                if (e[i].start(e[i].state, spaces, pages, frames, PAGE).kind != CORWYSTAL_DONE)
-                    return 1;
+                expect(e[i].start(e[i].state, spaces, pages, frames, PAGE), CORWYSTAL_DONE, "start");
                 for (uint32_t k = 0; ascending && k < spaces; k++)
-                    e[i].mark(e[i].state, k, 0);
+                    expect(e[i].mark(e[i].state, k, 0), CORWYSTAL_DONE, "mark");
             }
             for (int k = 0; k < CALLS; k++, calls++)
                 play(ascending);

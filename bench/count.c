@@ -15,15 +15,6 @@ static uint8_t buffer[1 << 20];
 
 static size_t counted;
 
-/* Whether the answer is of the kind that the case is about; a case that measures another thing must not pass. */
-static void expect(answer a, uint32_t kind, const char *what)
-{
-    if (a.kind != kind) {
-        fprintf(stderr, "%s: answer %u instead of %u\n", what, a.kind, kind);
-        exit(1);
-    }
-}
-
 #define COUNTED(action)                                                                                                \
     do {                                                                                                               \
         CALLGRIND_TOGGLE_COLLECT;                                                                                      \
@@ -69,7 +60,7 @@ static void touches(const engine *e)
     static const uint32_t from[3] = {0, 64, 4096};
     fresh(e);
     for (uint32_t p = 0; p < 1024; p++)
-        e->touch(e->state, 0, p * 37);
+        expect(e->touch(e->state, 0, p * 37), CORWYSTAL_NEW, "touch");
     for (uint32_t p = 0; p < 1024; p++) {
         COUNTED(e->touch(e->state, 0, p * 37));
         expect(a, CORWYSTAL_OLD, "touch");
@@ -82,8 +73,8 @@ static void touches(const engine *e)
     dump(e, "look resident", 0);
     for (uint32_t l = 0; l < 3; l++) {
         for (int r = 0; r < 16; r++) {
-            e->release(e->state, 0, 0);
-            e->touch(e->state, 0, 63);
+            expect(e->release(e->state, 0, 0), CORWYSTAL_PAGES, "release");
+            expect(e->touch(e->state, 0, 63), CORWYSTAL_NEW, "touch");
             for (uint32_t p = 0; p < 63; p++) {
                 COUNTED(e->touch(e->state, 0, from[l] + p));
                 expect(a, CORWYSTAL_NEW, "touch");
@@ -92,7 +83,7 @@ static void touches(const engine *e)
             }
         }
         dump(e, "touch absent", 2 * l + 1);
-        e->release(e->state, 0, 0);
+        expect(e->release(e->state, 0, 0), CORWYSTAL_PAGES, "release");
         for (uint32_t p = 0; p < 63; p++) {
             COUNTED(e->look(e->state, 0, from[l] + p));
             expect(a, CORWYSTAL_ABSENT, "look");
@@ -178,8 +169,10 @@ int main(void)
     static const size_t sizes[] = {1, 16, PAGE, 65536, 1 << 20};
     for (size_t s = 0; s < sizeof sizes / sizeof *sizes; s++) {
         COUNTED(copy(buffer, e[PAGER].ram, sizes[s]));
+        expect(a, CORWYSTAL_DONE, "copy");
         dump(&plain, "read", sizes[s]);
         COUNTED(copy(e[PAGER].ram, buffer, sizes[s]));
+        expect(a, CORWYSTAL_DONE, "copy");
         dump(&plain, "write", sizes[s]);
     }
     COUNTED(clear(e[PAGER].state));

@@ -117,3 +117,11 @@ void engines_free(engine e[ENGINES])
     for (size_t i = 0; i < sizeof all / sizeof *all; i++)
         free(all[i]);
 }
+
+void expect(answer a, uint32_t kind, const char *what)
+{
+    if (a.kind != kind) {
+        fprintf(stderr, "%s: answer %u (%s) instead of %u\n", what, a.kind, corwystal_text(a), kind);
+        exit(1);
+    }
+}

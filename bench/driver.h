@@ -34,4 +34,7 @@ engine checked_make(const engine *pager);
 
 void engines_free(engine e[ENGINES]);
 
+/* Whether the answer is of the kind that the case is about: one that measures another thing ends the program. */
+void expect(answer a, uint32_t kind, const char *what);
+
 #endif

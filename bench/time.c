@@ -19,17 +19,24 @@ static engine e[ENGINES];
 
 static uint64_t empty;
 
-/* A read or a write by an engine, or a copy alone. */
-static inline void span(int engine, int writes, size_t address, size_t n)
+/* A read or a write by an engine, or a copy alone: the kind of its answer. */
+static inline uint32_t span(int engine, int writes, size_t address, size_t n)
 {
-    if (engine == PLAIN && writes)
-        memcpy(plain_ram + address, buffer, n);
-    else if (engine == PLAIN)
-        memcpy(buffer, plain_ram + address, n);
-    else if (writes)
-        e[engine].write(e[engine].state, 0, address, buffer, n);
-    else
-        e[engine].read(e[engine].state, 0, address, buffer, n);
+    if (engine == PLAIN) {
+        memcpy(writes ? plain_ram + address : buffer, writes ? buffer : plain_ram + address, n);
+        return writes ? CORWYSTAL_DONE : CORWYSTAL_BYTES;
+    }
+    return writes ? e[engine].write(e[engine].state, 0, address, buffer, n).kind
+                  : e[engine].read(e[engine].state, 0, address, buffer, n).kind;
+}
+
+/* Timed calls gather the bits in which their answers' kinds differ from what they should be; they are looked at when the clock has stopped. */
+static void none_differs(uint32_t differs, const char *what)
+{
+    if (differs != 0) {
+        fprintf(stderr, "%s: an answer of another kind while it was timed; bench/check says which engine is wrong\n", what);
+        exit(1);
+    }
 }
 
 enum { ROUNDS = 4000 };
@@ -54,15 +61,18 @@ static void spans(size_t page, size_t n, int writes, int spread)
 {
     size_t step = n < page ? page : n, rounds = n >= 1 << 20 ? 300 : n >= 65536 ? 2000 : ROUNDS;
     size_t calls = n >= 65536 ? 1 : 16; /* in one reading of the clock */
+    uint32_t kind = writes ? CORWYSTAL_DONE : CORWYSTAL_BYTES;
     for (size_t r = 0; r < rounds; r++)
         for (int i = 0; i <= PLAIN; i++) {
+            uint32_t differs = 0;
             size_t at = spread ? r * calls * step % SPREAD : 0;
             uint64_t from = clock_begin();
             for (size_t k = 0; k < calls; k++) {
-                span(i, writes, at, n);
+                differs |= span(i, writes, at, n) ^ kind;
                 at = spread ? (at + step) % SPREAD : 0;
             }
             ticks[i][r] = clock_end() - from - empty;
+            none_differs(differs, writes ? "write" : "read");
         }
     for (int i = 0; i <= PLAIN; i++)
         printf("%s %zu %zu %s %s %.2f\n", writes ? "write" : "read", page, n, spread ? "spread" : "same", name_of(i),
@@ -78,18 +88,19 @@ static void calls_on(int call, int spread)
     static const char *const names[] = {"touch", "look", "translate"};
     for (uint32_t r = 0; r < ROUNDS; r++)
         for (int i = 0; i < ENGINES; i++) {
-            uint32_t page = spread ? r * CALLS : 0;
+            uint32_t page = spread ? r * CALLS : 0, differs = 0;
             uint64_t from = clock_begin();
             for (int k = 0; k < CALLS; k++) {
                 page = spread ? (page + 1) % (SPREAD / 4096) : 0;
                 if (call == TOUCH)
-                    e[i].touch(e[i].state, 0, page);
+                    differs |= e[i].touch(e[i].state, 0, page).kind ^ CORWYSTAL_OLD;
                 else if (call == LOOK)
-                    e[i].look(e[i].state, 0, page);
+                    differs |= e[i].look(e[i].state, 0, page).kind ^ CORWYSTAL_RESIDENT;
                 else
-                    e[i].translate(e[i].state, 0, (size_t)page * 4096 + 5);
+                    differs |= e[i].translate(e[i].state, 0, (size_t)page * 4096 + 5).kind ^ CORWYSTAL_AT;
             }
             ticks[i][r] = clock_end() - from - empty;
+            none_differs(differs, names[call]);
         }
     for (int i = 0; i < ENGINES; i++)
         printf("%s 4096 0 %s %s %.2f\n", names[call], spread ? "spread" : "same", name_of(i),
@@ -103,14 +114,16 @@ static void starts(void)
     enum { STARTS = 400 };
     for (int r = 0; r < STARTS; r++)
         for (int i = 0; i <= PLAIN; i++) {
+            answer a = {CORWYSTAL_DONE, 0, 0};
             uint64_t from = clock_begin();
             if (i == PLAIN) {
                 memset(plain_tables, 0, index);
                 memset(plain_tables + (1 << 20), 0, count);
             } else {
-                e[i].start(e[i].state, 1, PLACES, FRAMES, 4096);
+                a = e[i].start(e[i].state, 1, PLACES, FRAMES, 4096);
             }
             ticks[i][r] = clock_end() - from - empty;
+            expect(a, CORWYSTAL_DONE, "start");
         }
     for (int i = 0; i <= PLAIN; i++)
         printf("start 4096 %zu same %s %.2f\n", index + count, name_of(i), typical(i, STARTS, 0));
@@ -133,11 +146,10 @@ int main(void)
     for (size_t p = 0; p < sizeof pages / sizeof *pages; p++) {
         for (int i = 0; i < ENGINES; i++) {
             size_t frames = ram / pages[p] < FRAMES ? ram / pages[p] : FRAMES;
-            e[i].start(e[i].state, 1, PLACES, (uint32_t)frames, (uint32_t)pages[p]);
-            e[i].mark(e[i].state, 0, 0);
+            expect(e[i].start(e[i].state, 1, PLACES, (uint32_t)frames, (uint32_t)pages[p]), CORWYSTAL_DONE, "start");
+            expect(e[i].mark(e[i].state, 0, 0), CORWYSTAL_DONE, "mark");
             for (size_t at = 0; at < SPREAD + (1 << 20); at += 1 << 20)
-                if (corwystal_refused(e[i].write(e[i].state, 0, at, buffer, 1 << 20)))
-                    return 1;
+                expect(e[i].write(e[i].state, 0, at, buffer, 1 << 20), CORWYSTAL_DONE, "write");
         }
         for (int call = TOUCH; pages[p] == 4096 && call <= TRANSLATE; call++)
             for (int spread = 0; spread < 2; spread++)

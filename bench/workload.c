@@ -127,20 +127,23 @@ static void draw_all(void)
 /* The rest behind the region becomes a region, and the first page is touched, where the paper's allocator keeps its tag. */
 static __attribute__((noipa)) answer allocation(const engine *e, const action *a)
 {
-    if (a->splits)
-        e->mark(e->state, 0, a->next);
+    if (a->splits) {
+        answer r = e->mark(e->state, 0, a->next);
+        if (corwystal_refused(r))
+            return r;
+    }
     return e->touch(e->state, 0, a->page);
 }
 
 /* All pages at once; then the region is joined with its free neighbours. */
 static __attribute__((noipa)) answer release(const engine *e, const action *a)
 {
-    answer r = e->release(e->state, 0, a->page);
+    answer r = e->release(e->state, 0, a->page), joined = r;
     if (a->joins_next)
-        e->drop(e->state, 0, a->next);
-    if (a->joins_last)
-        e->drop(e->state, 0, a->page);
-    return r;
+        joined = e->drop(e->state, 0, a->next);
+    if (a->joins_last && !corwystal_refused(joined))
+        joined = e->drop(e->state, 0, a->page);
+    return corwystal_refused(joined) ? joined : r;
 }
 
 /* A word; a page not yet mapped is mapped first, as the paper's page fault does. */
@@ -150,8 +153,9 @@ static __attribute__((noipa)) answer read_word(const engine *e, const action *a)
     size_t address = (size_t)a->page * PAGE + a->offset;
     answer r = e->read(e->state, 0, address, word, sizeof word);
     if (r.kind == CORWYSTAL_NOT_RESIDENT) {
-        e->touch(e->state, 0, a->page);
-        r = e->read(e->state, 0, address, word, sizeof word);
+        r = e->touch(e->state, 0, a->page);
+        if (!corwystal_refused(r))
+            r = e->read(e->state, 0, address, word, sizeof word);
     }
     return r;
 }
@@ -178,8 +182,8 @@ static inline answer act(const engine *e, const action *a)
 
 static void begin(const engine *e)
 {
-    e->start(e->state, 1, PLACES, FRAMES, PAGE);
-    e->mark(e->state, 0, 0);
+    expect(e->start(e->state, 1, PLACES, FRAMES, PAGE), CORWYSTAL_DONE, "start");
+    expect(e->mark(e->state, 0, 0), CORWYSTAL_DONE, "mark");
 }
 
 /* ---- the three ways to play them */
@@ -202,8 +206,9 @@ static int check(const engine e[ENGINES])
         }
         each[actions[n].kind] += n >= WARM;
         refused += corwystal_refused(r[PAGER]);
-        uint64_t left = corwystal_free(&((corwystal_board *)e[PAGER].state)->head).value;
-        mapped = FRAMES - left;
+        answer left = corwystal_board_free_count(e[PAGER].state);
+        expect(left, CORWYSTAL_FRAMES, "free_count");
+        mapped = FRAMES - left.value;
         most = mapped > most ? mapped : most;
     }
     printf("workload actions");
@@ -213,24 +218,38 @@ static int check(const engine e[ENGINES])
     return 0;
 }
 
+/* Engines that refuse other actions than the pager do other work, and can't be compared with it. */
+static void same_refusals(const engine e[ENGINES], const size_t refused[ENGINES])
+{
+    for (int i = 0; i < ENGINES; i++)
+        if (refused[i] != refused[PAGER]) {
+            fprintf(stderr, "workload: %s refused %zu actions, the pager %zu; `workload check` says where they differ\n", e[i].name, refused[i],
+                    refused[PAGER]);
+            exit(1);
+        }
+}
+
 static uint32_t least[ENGINES][ACTIONS];
 
 static int timed(const engine e[ENGINES], const char *name)
 {
     uint64_t empty = clock_cost();
+    size_t refused[ENGINES] = {0};
     memset(least, 0xff, sizeof least);
     for (int run = 0; run < RUNS; run++)
         for (int i = 0; i < ENGINES; i++) {
             begin(&e[i]);
             for (size_t n = 0; n < ACTIONS; n++) {
                 uint64_t from = clock_begin();
-                act(&e[i], &actions[n]);
+                answer r = act(&e[i], &actions[n]);
                 uint64_t ticks = clock_end() - from;
+                refused[i] += corwystal_refused(r);
                 ticks = ticks > empty ? ticks - empty : 0;
                 if (ticks < least[i][n])
                     least[i][n] = (uint32_t)ticks;
             }
         }
+    same_refusals(e, refused);
     FILE *f = fopen(name, "w");
     if (f == NULL)
         return 1;
@@ -252,7 +271,7 @@ static int timed(const engine e[ENGINES], const char *name)
 
 static int counted(const engine e[ENGINES], const char *name)
 {
-    size_t slowest[ENGINES][KINDS] = {{0}}, n;
+    size_t slowest[ENGINES][KINDS] = {{0}}, refused[ENGINES] = {0}, n;
     char line[128];
     int i, k;
     FILE *f = fopen(name, "r");
@@ -266,10 +285,10 @@ static int counted(const engine e[ENGINES], const char *name)
         size_t each[KINDS] = {0};
         begin(&e[i]);
         for (n = 0; n < WARM; n++)
-            act(&e[i], &actions[n]);
+            refused[i] += corwystal_refused(act(&e[i], &actions[n]));
         CALLGRIND_TOGGLE_COLLECT;
         for (n = WARM; n < ACTIONS; n++)
-            act(&e[i], &actions[n]);
+            refused[i] += corwystal_refused(act(&e[i], &actions[n]));
         CALLGRIND_TOGGLE_COLLECT;
         for (n = WARM; n < ACTIONS; n++)
             each[actions[n].kind]++;
@@ -279,16 +298,17 @@ static int counted(const engine e[ENGINES], const char *name)
         for (n = 0; n < ACTIONS; n++) {
             k = actions[n].kind;
             if (slowest[i][k] != n) {
-                act(&e[i], &actions[n]);
+                refused[i] += corwystal_refused(act(&e[i], &actions[n]));
                 continue;
             }
             CALLGRIND_TOGGLE_COLLECT;
-            act(&e[i], &actions[n]);
+            refused[i] += corwystal_refused(act(&e[i], &actions[n]));
             CALLGRIND_TOGGLE_COLLECT;
             snprintf(line, sizeof line, "slowest %s/0/%s/1", kind_names[k], e[i].name);
             CALLGRIND_DUMP_STATS_AT(line);
         }
     }
+    same_refusals(e, refused);
     return 0;
 }
 

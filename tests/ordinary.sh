@@ -3,6 +3,8 @@
 # object code and of the board are tried on it: they must find it wrong.
 set -euo pipefail
 cd "$(dirname "${BASH_SOURCE[0]}")/.."
+# in others some awks drop lines of the kit's
+export LC_ALL=C
 made=target/ordinary
 mkdir -p "$made"
 rt check corwystal > "$made/log" 2>&1 || {

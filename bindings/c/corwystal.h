@@ -17,6 +17,27 @@
 #include <stddef.h>
 #include <stdint.h>
 
+#define CORWYSTAL_VERSION_MAJOR 0
+#define CORWYSTAL_VERSION_MINOR 2
+#define CORWYSTAL_VERSION_PATCH 0
+#define CORWYSTAL_VERSION "0.2.0"
+
+/* An answer that nobody looks at may be a refusal, and then nothing was done: compilers that can, warn of it. */
+#if defined(__cplusplus)
+#if __cplusplus >= 201703L
+#define CORWYSTAL_USE_ANSWER [[nodiscard]]
+#endif
+#elif defined(__STDC_VERSION__) && __STDC_VERSION__ >= 202000L && defined(__has_c_attribute)
+#if __has_c_attribute(nodiscard)
+#define CORWYSTAL_USE_ANSWER [[nodiscard]]
+#endif
+#endif
+#if !defined(CORWYSTAL_USE_ANSWER) && defined(__GNUC__)
+#define CORWYSTAL_USE_ANSWER __attribute__((warn_unused_result))
+#elif !defined(CORWYSTAL_USE_ANSWER)
+#define CORWYSTAL_USE_ANSWER
+#endif
+
 #ifdef __cplusplus
 extern "C" {
 #endif
@@ -51,6 +72,7 @@ typedef struct corwystal_needs {
     size_t ram;    /* bytes */
 } corwystal_needs;
 
+CORWYSTAL_USE_ANSWER
 corwystal_needs corwystal_sizes(uint32_t spaces, uint32_t pages, uint32_t frames, uint32_t page);
 
 /* ---- what is lent */
@@ -65,6 +87,9 @@ typedef struct corwystal_head {
     uint32_t many;
     uint32_t fresh;
 } corwystal_head;
+
+/* A head before any start. Every number is named, since C++ warns of those that are left out. */
+#define CORWYSTAL_HEAD_INIT {0, 0, 0, 0, 0, 0, 0}
 
 /* One region of a space. */
 typedef struct corwystal_region {
@@ -100,50 +125,90 @@ enum {
     CORWYSTAL_RESIDENT = 19, /* look: value is the frame */
     CORWYSTAL_ABSENT = 20,   /* look */
     CORWYSTAL_PAGES = 21,    /* release: value is the number of pages given back */
-    CORWYSTAL_FRAMES = 22,   /* free: value is the number of frames in the pool */
+    CORWYSTAL_FRAMES = 22,   /* free_count: value is the number of frames in the pool */
     CORWYSTAL_AT = 23,       /* translate: value is the place in RAM */
     CORWYSTAL_BYTES = 24,    /* read: value is the number of bytes, all of the buffer */
     CORWYSTAL_REGIONS = 25   /* list: value is the number of records filled */
 };
 
+CORWYSTAL_USE_ANSWER
 static inline int corwystal_refused(corwystal_answer a) { return a.kind < 16; }
+
+/* Why an answer is a refusal and what to do about it, for a log; docs/KERNEL.md says more. Never null, whatever the answer. */
+CORWYSTAL_USE_ANSWER
+static inline const char *corwystal_text(corwystal_answer a) {
+    switch (a.kind) {
+    case CORWYSTAL_NO_SIZE:
+        return "a size outside its limits, a buffer too short, or no start made: lend what the sizes need, then start";
+    case CORWYSTAL_NO_SPACE:
+        return "no such space: name one below the number of spaces";
+    case CORWYSTAL_NO_PAGE:
+        return "no such page or address, or the span ends beyond its space: stay within the space";
+    case CORWYSTAL_NO_REGION:
+        return "the page has no region: mark a start at it or before it";
+    case CORWYSTAL_NO_START:
+        return "the page is no start: name one that the list of regions has";
+    case CORWYSTAL_START_ALREADY:
+        return "the page is a start already: use its region as it is";
+    case CORWYSTAL_RESIDENT_PAGES:
+        return "the region has resident pages: release it first";
+    case CORWYSTAL_NO_FRAME:
+        return "the pool has too few frames: release a region, then try again";
+    case CORWYSTAL_NOT_OURS:
+        return "head or tables are not what these calls left: trust no page and start anew";
+    case CORWYSTAL_NOT_RESIDENT:
+        return "the page is in a region, but absent: touch or write it first";
+    case CORWYSTAL_NO_ROOM:
+        return "fewer records than regions: lend more records";
+    default:
+        return corwystal_refused(a) ? "no call answers so: look where this answer comes from" : "done";
+    }
+}
 
 /* ---- the calls */
 
 /* Sets the sizes: no starts, every frame in the pool. Prepares index and count; the rest may hold anything. */
+CORWYSTAL_USE_ANSWER
 corwystal_answer corwystal_start(corwystal_head *head, uint32_t spaces, uint32_t pages, uint32_t frames, uint32_t page,
                                  uint64_t *index, size_t index_len, uint32_t *count, size_t count_len);
 
 /* Makes a page a region's start. The region that it cuts must have no resident page. */
+CORWYSTAL_USE_ANSWER
 corwystal_answer corwystal_mark(const corwystal_head *head, uint32_t space, uint32_t page, uint64_t *index,
                                 size_t index_len, const uint32_t *count, size_t count_len);
 
 /* Makes a start none any more. Its region must have no resident page. */
+CORWYSTAL_USE_ANSWER
 corwystal_answer corwystal_drop(const corwystal_head *head, uint32_t space, uint32_t page, uint64_t *index,
                                 size_t index_len, const uint32_t *count, size_t count_len);
 
 /* The frame of a page, mapped if need be. A new page shows what its frame last held. */
+CORWYSTAL_USE_ANSWER
 corwystal_answer corwystal_touch(corwystal_head *head, uint32_t space, uint32_t page, const uint64_t *index,
                                  size_t index_len, uint32_t *count, size_t count_len, uint32_t *table,
                                  size_t table_len, uint32_t *helper, size_t helper_len, uint32_t *stack,
                                  size_t stack_len, uint32_t *cache, size_t cache_len, uint32_t *link, size_t link_len);
 
 /* Whether a page is resident, and its frame. */
+CORWYSTAL_USE_ANSWER
 corwystal_answer corwystal_look(const corwystal_head *head, uint32_t space, uint32_t page, const uint64_t *index,
                                 size_t index_len, const uint32_t *count, size_t count_len, const uint32_t *table,
                                 size_t table_len, const uint32_t *helper, size_t helper_len, const uint32_t *stack,
                                 size_t stack_len, const uint32_t *cache, size_t cache_len);
 
 /* Gives back every page of the region that starts at a page, in constant time. The start stays. */
+CORWYSTAL_USE_ANSWER
 corwystal_answer corwystal_release(corwystal_head *head, uint32_t space, uint32_t page, const uint64_t *index,
                                    size_t index_len, uint32_t *count, size_t count_len, const uint32_t *table,
                                    size_t table_len, const uint32_t *stack, size_t stack_len, uint32_t *link,
                                    size_t link_len);
 
-/* How many frames the pool has. */
-corwystal_answer corwystal_free(const corwystal_head *head);
+/* How many frames the pool has. Nothing is freed: that is release. */
+CORWYSTAL_USE_ANSWER
+corwystal_answer corwystal_free_count(const corwystal_head *head);
 
 /* The place in RAM of an address. */
+CORWYSTAL_USE_ANSWER
 corwystal_answer corwystal_translate(const corwystal_head *head, uint32_t space, size_t address, const uint64_t *index,
                                      size_t index_len, const uint32_t *count, size_t count_len, const uint32_t *table,
                                      size_t table_len, const uint32_t *helper, size_t helper_len,
@@ -151,6 +216,7 @@ corwystal_answer corwystal_translate(const corwystal_head *head, uint32_t space,
                                      size_t cache_len);
 
 /* Fills the buffer from an address on. A refusal leaves the buffer. */
+CORWYSTAL_USE_ANSWER
 corwystal_answer corwystal_read(const corwystal_head *head, uint32_t space, size_t address, uint8_t *buffer,
                                 size_t buffer_len, const uint64_t *index, size_t index_len, const uint32_t *count,
                                 size_t count_len, const uint32_t *table, size_t table_len, const uint32_t *helper,
@@ -158,6 +224,7 @@ corwystal_answer corwystal_read(const corwystal_head *head, uint32_t space, size
                                 size_t cache_len, const uint8_t *ram, size_t ram_len);
 
 /* Stores the bytes from an address on, mapping pages that are absent: all or nothing. */
+CORWYSTAL_USE_ANSWER
 corwystal_answer corwystal_write(corwystal_head *head, uint32_t space, size_t address, const uint8_t *bytes,
                                  size_t bytes_len, const uint64_t *index, size_t index_len, uint32_t *count,
                                  size_t count_len, uint32_t *table, size_t table_len, uint32_t *helper,
@@ -165,6 +232,7 @@ corwystal_answer corwystal_write(corwystal_head *head, uint32_t space, size_t ad
                                  size_t cache_len, uint32_t *link, size_t link_len, uint8_t *ram, size_t ram_len);
 
 /* One record a region of a space, ascending. Records after the last stay. */
+CORWYSTAL_USE_ANSWER
 corwystal_answer corwystal_list(const corwystal_head *head, uint32_t space, corwystal_region *records,
                                 size_t records_len, const uint64_t *index, size_t index_len, const uint32_t *count,
                                 size_t count_len);

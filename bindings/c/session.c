@@ -14,15 +14,7 @@ static uint64_t index_words[CORWYSTAL_INDEX_WORDS(PLACES)];
 static uint32_t count[PLACES], table[PLACES], helper[PLACES], stack[PLACES], cache[PLACES], frame_link[FRAMES];
 static uint8_t ram[FRAMES * PAGE];
 
-static corwystal_board board = {{0},
-                                CORWYSTAL_LENT(index_words),
-                                CORWYSTAL_LENT(count),
-                                CORWYSTAL_LENT(table),
-                                CORWYSTAL_LENT(helper),
-                                CORWYSTAL_LENT(stack),
-                                CORWYSTAL_LENT(cache),
-                                CORWYSTAL_LENT(frame_link),
-                                CORWYSTAL_LENT(ram)};
+static corwystal_board board = CORWYSTAL_BOARD_INIT(index_words, count, table, helper, stack, cache, frame_link, ram);
 
 static void say(corwystal_answer a) {
     switch (a.kind) {

@@ -3,25 +3,34 @@
 //! A [`Pager`] borrows its memory for as long as it lives, so nobody else can write it, which is all that the proofs
 //! assume of a caller. It allocates nothing and never panics. Link `libcorwystal.a`; `docs/KERNEL.md` has the rest.
 //!
+//! Take it as a crate (`Cargo.toml` beside this file links the library), or this file alone as a module: `mod corwystal;`.
+//!
 //! ```ignore
 //! let mut pager = Pager::start(memory, Sizes { spaces: 1, pages: 8, frames: 3, page: 256 })?;
 //! pager.mark(0, 0)?;
 //! pager.write(0, 1_000, b"3.71")?;
 //! ```
-#![no_std]
+
+// A program that has this file as its module needn't use all of it.
+#![allow(dead_code)]
 
 use core::fmt;
 
 /// S spaces of N pages, F frames of P bytes: document 01, "Sizes".
 #[derive(Clone, Copy, Debug, PartialEq, Eq)]
 pub struct Sizes {
+    /// S, from 1 to 64.
     pub spaces: u32,
+    /// N, from 1 on; S x N is at most 262,144.
     pub pages: u32,
+    /// F, from 1 to 65,536.
     pub frames: u32,
+    /// P, a power of two from 256 to 65,536.
     pub page: u32,
 }
 
 /// The entries that each buffer needs.
+#[must_use]
 #[derive(Clone, Copy, Debug, PartialEq, Eq)]
 pub struct Needs {
     /// 64-bit words of the index.
@@ -35,6 +44,7 @@ pub struct Needs {
 }
 
 /// The words of an index of so many places, as a constant, for memory laid out when the kernel is built.
+#[must_use]
 pub const fn index_words(places: usize) -> usize {
     let mut layer = places.div_ceil(64);
     let mut words = layer;
@@ -47,9 +57,9 @@ pub const fn index_words(places: usize) -> usize {
 
 impl Sizes {
     /// What a start of these sizes and the calls after it must be lent; none for sizes outside their limits.
+    #[must_use]
     pub fn needs(self) -> Option<Needs> {
-        let needs =
-            unsafe { raw::corwystal_sizes(self.spaces, self.pages, self.frames, self.page) };
+        let needs = raw::corwystal_sizes(self.spaces, self.pages, self.frames, self.page);
         if needs.refusal != 0 {
             return None;
         }
@@ -66,20 +76,33 @@ impl Sizes {
 #[derive(Clone, Copy, Debug, PartialEq, Eq)]
 #[repr(u32)]
 pub enum Refusal {
+    /// A size outside its limits, or a buffer too short for the sizes: [`Sizes::needs`] tells what they need.
     Size = 1,
+    /// No such space: they are numbered from 0 to one less than [`Sizes::spaces`].
     NoSpace = 2,
+    /// No such page or address, or the span ends beyond its space: refuse what was to be stored there.
     NoPage = 3,
+    /// The page lies before every start of its space: mark a start at it or before it.
     NoRegion = 4,
+    /// The page that was to be dropped or released is no start: [`Pager::list`] has the starts.
     NoStart = 5,
+    /// The page is a start already: its region is there and can be used.
     StartAlready = 6,
+    /// The region that would be cut or dropped has resident pages: release it first.
     ResidentPages = 7,
+    /// The pool has too few frames, and nothing was stored or mapped: release a region and try again.
     NoFrame = 8,
+    /// Head or tables are not what these calls left: trust no page and start anew.
     NotOurs = 9,
+    /// The page is in a region, but was not written since its release: there is nothing to read.
     NotResident = 10,
+    /// Fewer records than regions: lend a longer slice; as many as a space has pages are always enough.
     NoRoom = 11,
 }
 
 impl Refusal {
+    /// The number that document 01 has for it, 1 to 11.
+    #[must_use]
     pub fn number(self) -> u32 {
         self as u32
     }
@@ -104,17 +127,17 @@ impl Refusal {
 impl fmt::Display for Refusal {
     fn fmt(&self, f: &mut fmt::Formatter<'_>) -> fmt::Result {
         f.write_str(match self {
-            Refusal::Size => "a size outside its limits, or a buffer too short for the sizes",
-            Refusal::NoSpace => "no such space",
-            Refusal::NoPage => "no such page or address, or the span ends beyond its space",
+            Refusal::Size => "a size outside its limits, a buffer too short, or no start made: lend what the sizes need, then start",
+            Refusal::NoSpace => "no such space: name one below the number of spaces",
+            Refusal::NoPage => "no such page or address, or the span ends beyond its space: stay within the space",
             Refusal::NoRegion => "the page has no region: mark a start at it or before it",
-            Refusal::NoStart => "the page is no start",
-            Refusal::StartAlready => "the page is a start already",
+            Refusal::NoStart => "the page is no start: name one that the list of regions has",
+            Refusal::StartAlready => "the page is a start already: use its region as it is",
             Refusal::ResidentPages => "the region has resident pages: release it first",
-            Refusal::NoFrame => "the pool has too few frames: release a region",
-            Refusal::NotOurs => "head or tables are not what these calls left: start anew",
+            Refusal::NoFrame => "the pool has too few frames: release a region, then try again",
+            Refusal::NotOurs => "head or tables are not what these calls left: trust no page and start anew",
             Refusal::NotResident => "the page is in a region, but absent: touch or write it first",
-            Refusal::NoRoom => "fewer records than regions: lend a longer slice",
+            Refusal::NoRoom => "fewer records than regions: lend more records",
         })
     }
 }
@@ -124,7 +147,9 @@ impl core::error::Error for Refusal {}
 /// A refused touch or look, with the index words that were read.
 #[derive(Clone, Copy, Debug, PartialEq, Eq)]
 pub struct Refused {
+    /// Why.
     pub refusal: Refusal,
+    /// Index words read.
     pub words: u32,
 }
 
@@ -146,36 +171,64 @@ impl From<Refused> for Refusal {
 #[derive(Clone, Copy, Debug, PartialEq, Eq)]
 pub enum Touched {
     /// The page was resident.
-    Old { frame: u32 },
+    Old {
+        /// Its frame.
+        frame: u32,
+    },
     /// The page was mapped just now; it shows what its frame last held.
-    New { frame: u32, words: u32 },
+    New {
+        /// Its frame.
+        frame: u32,
+        /// Index words read.
+        words: u32,
+    },
 }
 
 /// What a look found.
+#[must_use]
 #[derive(Clone, Copy, Debug, PartialEq, Eq)]
 pub enum Looked {
-    Resident { frame: u32 },
-    Absent { words: u32 },
+    /// The page is resident.
+    Resident {
+        /// Its frame.
+        frame: u32,
+    },
+    /// The page is in a region, but absent.
+    Absent {
+        /// Index words read.
+        words: u32,
+    },
 }
 
 /// One region of a space.
 #[repr(C)]
 #[derive(Clone, Copy, Debug, Default, PartialEq, Eq)]
 pub struct Region {
+    /// Its first page.
     pub start: u32,
+    /// Its pages, up to the next start or the space's end.
     pub length: u32,
+    /// How many of them are resident.
     pub resident: u32,
 }
 
 /// The memory that a pager works on. Only index and counts are prepared by a start; the rest may hold anything.
 pub struct Memory<'a> {
+    /// The index of starts: [`Needs::index`] words, or [`index_words`] as a constant.
     pub index: &'a mut [u64],
+    /// Resident pages of each region: [`Needs::places`] words, like the next four.
     pub count: &'a mut [u32],
+    /// The page table.
     pub table: &'a mut [u32],
+    /// Where in its region's stack a page is.
     pub helper: &'a mut [u32],
+    /// The pages of each region in the order in which they were mapped.
     pub stack: &'a mut [u32],
+    /// The region of each page, as last found.
     pub cache: &'a mut [u32],
+    /// The frame after each frame: [`Needs::link`] words.
     pub link: &'a mut [u32],
+    /// The frames: [`Needs::ram`] bytes.
     pub ram: &'a mut [u8],
 }
 
@@ -231,14 +284,16 @@ impl<'a> Pager<'a> {
     /// Makes a page a region's start. The region that it cuts must have no resident page.
     pub fn mark(&mut self, space: u32, page: u32) -> Result<(), Refusal> {
         let m = &mut self.memory;
-        let answer = lend!(corwystal_mark(&self.head, space, page; as_mut_ptr m.index, as_ptr m.count));
+        let answer =
+            lend!(corwystal_mark(&self.head, space, page; as_mut_ptr m.index, as_ptr m.count));
         answer.done()
     }
 
     /// Makes a start none any more; its pages join the region before it. It must have no resident page.
     pub fn drop_start(&mut self, space: u32, page: u32) -> Result<(), Refusal> {
         let m = &mut self.memory;
-        let answer = lend!(corwystal_drop(&self.head, space, page; as_mut_ptr m.index, as_ptr m.count));
+        let answer =
+            lend!(corwystal_drop(&self.head, space, page; as_mut_ptr m.index, as_ptr m.count));
         answer.done()
     }
 
@@ -283,9 +338,9 @@ impl<'a> Pager<'a> {
         Ok(answer.value_of(raw::PAGES)? as u32)
     }
 
-    /// How many frames the pool has.
-    pub fn free(&self) -> Result<u32, Refusal> {
-        let answer = unsafe { raw::corwystal_free(&self.head) };
+    /// How many frames the pool has. Nothing is freed: that is [`Pager::release`].
+    pub fn free_count(&self) -> Result<u32, Refusal> {
+        let answer = unsafe { raw::corwystal_free_count(&self.head) };
         Ok(answer.value_of(raw::FRAMES)? as u32)
     }
 
@@ -325,7 +380,8 @@ impl<'a> Pager<'a> {
         Ok(&records[..n])
     }
 
-    /// The bytes of a frame, to look at.
+    /// The bytes of a frame, to look at; none for a number that is no frame's.
+    #[must_use]
     pub fn frame(&self, frame: u32) -> Option<&[u8]> {
         if frame >= self.head.frames {
             return None;
@@ -351,6 +407,7 @@ mod raw {
     pub const BYTES: u32 = 24;
     pub const REGIONS: u32 = 25;
 
+    #[must_use]
     #[repr(C)]
     pub struct Needs {
         pub refusal: u32,
@@ -372,6 +429,7 @@ mod raw {
         pub fresh: u32,
     }
 
+    #[must_use]
     #[repr(C)]
     pub struct Answer {
         pub kind: u32,
@@ -400,8 +458,9 @@ mod raw {
         }
     }
 
-    extern "C" {
-        pub fn corwystal_sizes(spaces: u32, pages: u32, frames: u32, page: u32) -> Needs;
+    unsafe extern "C" {
+        // numbers only: nothing is asked of its caller
+        pub safe fn corwystal_sizes(spaces: u32, pages: u32, frames: u32, page: u32) -> Needs;
 
         pub fn corwystal_start(
             head: *mut Head,
@@ -489,7 +548,7 @@ mod raw {
             link_len: usize,
         ) -> Answer;
 
-        pub fn corwystal_free(head: *const Head) -> Answer;
+        pub fn corwystal_free_count(head: *const Head) -> Answer;
 
         pub fn corwystal_translate(
             head: *const Head,

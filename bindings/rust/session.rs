@@ -1,6 +1,6 @@
 //! Document 01's session through the Rust module: each call's answer on a line of its own, as the session program writes it.
 //! Build: bindings/build
-use corwystal::{index_words, Looked, Memory, Pager, Refusal, Refused, Sizes, Touched};
+use corwystal::{Looked, Memory, Pager, Refusal, Refused, Sizes, Touched, index_words};
 
 const SIZES: Sizes = Sizes {
     spaces: 1,

@@ -19,15 +19,7 @@ enum { READING = 16, ROOM = BATCH_PAGES * PAGE / READING, PART = MOST_PAYLOAD / 
 static uint64_t index_words[CORWYSTAL_INDEX_WORDS(PLACES)];
 static uint32_t count[PLACES], table[PLACES], helper[PLACES], stack[PLACES], cache[PLACES], frame_link[MOST_FRAMES];
 static uint8_t ram[MOST_FRAMES * PAGE];
-static corwystal_board memory = {{0},
-                                 CORWYSTAL_LENT(index_words),
-                                 CORWYSTAL_LENT(count),
-                                 CORWYSTAL_LENT(table),
-                                 CORWYSTAL_LENT(helper),
-                                 CORWYSTAL_LENT(stack),
-                                 CORWYSTAL_LENT(cache),
-                                 CORWYSTAL_LENT(frame_link),
-                                 CORWYSTAL_LENT(ram)};
+static corwystal_board memory = CORWYSTAL_BOARD_INIT(index_words, count, table, helper, stack, cache, frame_link, ram);
 
 /* ---- the pager's calls */
 
@@ -46,7 +38,7 @@ static void aim(void) {
 /* An answer that can't be other on a sound board. One that is other all the same ends it: nothing that it holds can be trusted. */
 static uint64_t must(corwystal_answer a, uint32_t kind, const char *what) {
     if (a.kind == kind) return a.value;
-    say("board: %s answered %u, value %u\n", what, (uint64_t)a.kind, a.value);
+    say("board: %s answered %u, value %u: %s\n", what, (uint64_t)a.kind, a.value, corwystal_text(a));
     leave(1);
 }
 
@@ -185,7 +177,7 @@ static void tell_desk(void) {
 /* Every frame is in the pool or in a region: what the lists tell and what is free make F. */
 static _Noreturn void stop(void) {
     static corwystal_region regions[PAGES];
-    uint64_t resident = 0, free_frames = must(corwystal_board_free(&memory), CORWYSTAL_FRAMES, "free");
+    uint64_t resident = 0, free_frames = must(corwystal_board_free_count(&memory), CORWYSTAL_FRAMES, "free_count");
     for (uint32_t g = 0; g < GAUGES; g++) {
         uint64_t n = must(corwystal_board_list(&memory, g, regions, PAGES), CORWYSTAL_REGIONS, "list");
         for (uint64_t k = 0; k < n; k++) resident += regions[k].resident;

@@ -47,15 +47,22 @@ static int same(const struct memory *one, const struct memory *other) {
     return 1;
 }
 
+/* A scene that is prepared wrongly tests nothing: a preparing call that is refused ends the sweep. */
+static void ready(corwystal_answer a) {
+    if (!corwystal_refused(a)) return;
+    say("sweep: a call that prepares the next scene is refused with %u: %s\n", (uint64_t)a.kind, corwystal_text(a));
+    leave(1);
+}
+
 /* A start with so many pages in each space, on tables full of garbage. */
 static void begin(uint32_t spaces, uint32_t pages) {
     size_t places = (size_t)spaces * pages;
     uint32_t *t = now.tables;
     memset(&now, 0xA5, sizeof now);
     used = (offsetof(struct memory, tables) + 5 * places * sizeof *t + 7) / 8 * 8;
-    lent = (corwystal_board){{0}, CORWYSTAL_LENT(now.index_words), t, places, t + places, places, t + 2 * places, places, t + 3 * places, places,
-                             t + 4 * places, places, CORWYSTAL_LENT(now.link), CORWYSTAL_LENT(now.ram)};
-    corwystal_board_start(&lent, spaces, pages, FRAMES, PAGE);
+    lent = (corwystal_board){CORWYSTAL_HEAD_INIT, CORWYSTAL_LENT(now.index_words), t, places, t + places, places, t + 2 * places, places,
+                             t + 3 * places, places, t + 4 * places, places, CORWYSTAL_LENT(now.link), CORWYSTAL_LENT(now.ram)};
+    ready(corwystal_board_start(&lent, spaces, pages, FRAMES, PAGE));
 }
 
 /* ---- what stands before the call */
@@ -64,57 +71,57 @@ static void begin(uint32_t spaces, uint32_t pages) {
    2 frames that were used and 2 that never were. */
 static void two_gauges(void) {
     begin(2, 64);
-    corwystal_board_mark(&lent, 0, 0), corwystal_board_mark(&lent, 0, 32), corwystal_board_mark(&lent, 1, 8);
-    for (uint32_t page = 0; page < 3; page++) corwystal_board_touch(&lent, 0, page);
-    for (uint32_t page = 40; page < 42; page++) corwystal_board_touch(&lent, 0, page);
-    corwystal_board_touch(&lent, 1, 10);
-    corwystal_board_release(&lent, 0, 32);
+    ready(corwystal_board_mark(&lent, 0, 0)), ready(corwystal_board_mark(&lent, 0, 32)), ready(corwystal_board_mark(&lent, 1, 8));
+    for (uint32_t page = 0; page < 3; page++) ready(corwystal_board_touch(&lent, 0, page));
+    for (uint32_t page = 40; page < 42; page++) ready(corwystal_board_touch(&lent, 0, page));
+    ready(corwystal_board_touch(&lent, 1, 10));
+    ready(corwystal_board_release(&lent, 0, 32));
 }
 
 /* The same with a pool of frames that were never used. */
 static void fresh_pool(void) {
     begin(2, 64);
-    corwystal_board_mark(&lent, 0, 0);
-    for (uint32_t page = 0; page < 3; page++) corwystal_board_touch(&lent, 0, page);
+    ready(corwystal_board_mark(&lent, 0, 0));
+    for (uint32_t page = 0; page < 3; page++) ready(corwystal_board_touch(&lent, 0, page));
 }
 
 static void empty_pool(void) {
     two_gauges();
-    for (uint32_t page = 11; page < 15; page++) corwystal_board_touch(&lent, 1, page);
+    for (uint32_t page = 11; page < 15; page++) ready(corwystal_board_touch(&lent, 1, page));
 }
 
 /* One space of 64 pages: the index has one word. */
 static void one_layer(void) {
     begin(1, 64);
-    corwystal_board_mark(&lent, 0, 0);
-    corwystal_board_touch(&lent, 0, 5);
+    ready(corwystal_board_mark(&lent, 0, 0));
+    ready(corwystal_board_touch(&lent, 0, 5));
 }
 
 /* One space of 4,097 pages with one region: three layers, and a find from the last page reads five words. */
 static void three_layers(void) {
     begin(1, MOST_PLACES);
-    corwystal_board_mark(&lent, 0, 0);
-    corwystal_board_touch(&lent, 0, 5), corwystal_board_touch(&lent, 0, 9);
-    corwystal_board_release(&lent, 0, 0);
-    corwystal_board_touch(&lent, 0, 7);
+    ready(corwystal_board_mark(&lent, 0, 0));
+    ready(corwystal_board_touch(&lent, 0, 5)), ready(corwystal_board_touch(&lent, 0, 9));
+    ready(corwystal_board_release(&lent, 0, 0));
+    ready(corwystal_board_touch(&lent, 0, 7));
 }
 
 /* The same with starts at both ends and no page. */
 static void two_ends(void) {
     begin(1, MOST_PLACES);
-    corwystal_board_mark(&lent, 0, 0), corwystal_board_mark(&lent, 0, MOST_PLACES - 1);
+    ready(corwystal_board_mark(&lent, 0, 0)), ready(corwystal_board_mark(&lent, 0, MOST_PLACES - 1));
 }
 
 static void one_end(void) {
     two_ends();
-    corwystal_board_drop(&lent, 0, MOST_PLACES - 1);
+    ready(corwystal_board_drop(&lent, 0, MOST_PLACES - 1));
 }
 
 static void no_starts(void) { begin(1, MOST_PLACES); }
 
 static void never_started(void) {
     begin(2, 64);
-    lent.head = (corwystal_head){0};
+    lent.head = (corwystal_head)CORWYSTAL_HEAD_INIT;
 }
 
 /* Memory that somebody else has written: a pool, counts, frames that can't be. */
@@ -140,7 +147,7 @@ static void broken_head(void) {
 
 /* ---- the call */
 
-enum call { START, MARK, DROP, TOUCH, LOOK, RELEASE, FREE, TRANSLATE, READ, WRITE, LIST, SIZES };
+enum call { START, MARK, DROP, TOUCH, LOOK, RELEASE, FREE_COUNT, TRANSLATE, READ, WRITE, LIST, SIZES };
 
 static const struct scene {
     const char *call, *how;
@@ -195,9 +202,9 @@ static const struct scene {
     {"release", "outside", two_gauges, RELEASE, 2, 0, 0, CORWYSTAL_NO_SPACE},
     {"release", "with broken counts", broken_counts, RELEASE, 0, 0, 0, CORWYSTAL_NOT_OURS},
     {"release", "with broken frames", broken_frames, RELEASE, 0, 0, 0, CORWYSTAL_NOT_OURS},
-    {"free", "", two_gauges, FREE, 0, 0, 0, CORWYSTAL_FRAMES},
-    {"free", "before a start", never_started, FREE, 0, 0, 0, CORWYSTAL_NO_SIZE},
-    {"free", "with a broken head", broken_head, FREE, 0, 0, 0, CORWYSTAL_NOT_OURS},
+    {"free_count", "", two_gauges, FREE_COUNT, 0, 0, 0, CORWYSTAL_FRAMES},
+    {"free_count", "before a start", never_started, FREE_COUNT, 0, 0, 0, CORWYSTAL_NO_SIZE},
+    {"free_count", "with a broken head", broken_head, FREE_COUNT, 0, 0, 0, CORWYSTAL_NOT_OURS},
     {"translate", "", two_gauges, TRANSLATE, 0, 2 * PAGE + 9, 0, CORWYSTAL_AT},
     {"translate", "of an absent page", two_gauges, TRANSLATE, 0, 33 * PAGE, 0, CORWYSTAL_NOT_RESIDENT},
     {"translate", "without a region", two_gauges, TRANSLATE, 1, 0, 0, CORWYSTAL_NO_REGION},
@@ -240,7 +247,7 @@ static corwystal_answer answer_of(const struct scene *s) {
     case TOUCH: return corwystal_board_touch(&lent, s->space, page);
     case LOOK: return corwystal_board_look(&lent, s->space, page);
     case RELEASE: return corwystal_board_release(&lent, s->space, page);
-    case FREE: return corwystal_board_free(&lent);
+    case FREE_COUNT: return corwystal_board_free_count(&lent);
     case TRANSLATE: return corwystal_board_translate(&lent, s->space, s->at);
     case READ: return corwystal_board_read(&lent, s->space, s->at, now.bytes, s->n);
     case WRITE: return corwystal_board_write(&lent, s->space, s->at, now.bytes, s->n);
@@ -275,7 +282,9 @@ static void disturbed(const char *how, void (*way)(void)) {
     put_back();
     if (save(&here)) {
         interrupts_off();
-        if (wrong++ < 3) say("sweep: %s %s, %s: trap %u at +%x of the library\n", scene->call, scene->how, how, fault.vector, fault.rip - (uint64_t)pager_from);
+        if (wrong++ < 3)
+            say("sweep: %s %s, %s: trap %u at +%x of the library\n", scene->call, scene->how, how, fault.vector,
+                fault.rip - (uint64_t)pager_from);
         return;
     }
     on_fault = &here;

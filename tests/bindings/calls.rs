@@ -1,6 +1,6 @@
 //! Every method of the Rust module, accepted and refused, on memory full of garbage.
 use corwystal::{
-    index_words, Looked, Memory, Needs, Pager, Refusal, Refused, Region, Sizes, Touched,
+    Looked, Memory, Needs, Pager, Refusal, Refused, Region, Sizes, Touched, index_words,
 };
 
 const SIZES: Sizes = Sizes {
@@ -73,7 +73,7 @@ fn main() {
         }),
         Err(Refusal::Size)
     );
-    assert_eq!(pager.free(), Ok(4));
+    assert_eq!(pager.free_count(), Ok(4));
     assert_eq!(pager.mark(0, 10), Ok(()));
     assert_eq!(pager.mark(0, 10), Err(Refusal::StartAlready));
     assert_eq!(pager.mark(2, 10), Err(Refusal::NoSpace));
@@ -124,7 +124,7 @@ fn main() {
 
     assert_eq!(pager.release(1, 0), Ok(2));
     assert_eq!(pager.release(1, 1), Err(Refusal::NoStart));
-    assert_eq!(pager.free(), Ok(3));
+    assert_eq!(pager.free_count(), Ok(3));
     assert_eq!(pager.drop_start(1, 0), Ok(()));
     for number in 1..=11 {
         let said = REFUSALS[number - 1];

@@ -1,7 +1,8 @@
-/* Holds the header's constants, its structs and corwystal_sizes to each other and to document 01's figures. */
+/* Holds the header's constants, its structs, its version and corwystal_sizes to each other and to document 01's figures. */
 #include "corwystal.h"
 
 #include <stdio.h>
+#include <string.h>
 
 _Static_assert(CORWYSTAL_INDEX_WORDS(64) == 1, "T = 64 takes 1 word");
 _Static_assert(CORWYSTAL_INDEX_WORDS(65) == 3, "T = 65 takes 3");
@@ -17,7 +18,8 @@ static void accepted(uint32_t spaces, uint32_t pages, uint32_t frames, uint32_t 
     corwystal_needs n = corwystal_sizes(spaces, pages, frames, page);
     size_t t = (size_t)spaces * pages;
     if (n.refusal || n.index != CORWYSTAL_INDEX_WORDS(t) || n.places != t || n.link != frames || n.ram != (size_t)frames * page) {
-        printf("sizes %u %u %u %u: refusal %u, index %zu, places %zu, link %zu, ram %zu\n", spaces, pages, frames, page, n.refusal, n.index, n.places, n.link, n.ram);
+        printf("sizes %u %u %u %u: refusal %u, index %zu, places %zu, link %zu, ram %zu\n", spaces, pages, frames, page, n.refusal, n.index,
+               n.places, n.link, n.ram);
         wrong = 1;
     }
 }
@@ -30,7 +32,17 @@ static void refused(uint32_t spaces, uint32_t pages, uint32_t frames, uint32_t p
     }
 }
 
+static void one_version(void) {
+    char version[32];
+    snprintf(version, sizeof version, "%d.%d.%d", CORWYSTAL_VERSION_MAJOR, CORWYSTAL_VERSION_MINOR, CORWYSTAL_VERSION_PATCH);
+    if (strcmp(version, CORWYSTAL_VERSION) != 0) {
+        printf("version %s in three numbers, %s as a text\n", version, CORWYSTAL_VERSION);
+        wrong = 1;
+    }
+}
+
 int main(void) {
+    one_version();
     for (uint32_t t = 1; t <= CORWYSTAL_MOST_PLACES; t = t < 5000 ? t + 1 : t + 997)
         accepted(1, t, 1, 256);
     accepted(1, CORWYSTAL_MOST_PLACES, CORWYSTAL_MOST_FRAMES, CORWYSTAL_MOST_PAGE);

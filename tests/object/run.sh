@@ -46,7 +46,7 @@ grouped() { sed -E ':more; s/^([0-9]+)([0-9]{3})(,|$)/\1,\2\3/; t more' <<< "$1"
 while read -r name stack most; do
     echo "| ${name#corwystal_} | $(grouped "$stack") | $(grouped "$most") |"
 done < "$made/calls" | sort > "$made/rows"
-awk -F '|' '/<!-- calls -->/, /<!-- end -->/ { if ($2 ~ /^ [a-z]+ $/) print "|" $2 "|" $3 "|" $4 "|" }' docs/KERNEL.md | sort > "$made/kept"
+awk -F '|' '/<!-- calls -->/, /<!-- end -->/ { if ($2 ~ /^ [a-z_]+ $/) print "|" $2 "|" $3 "|" $4 "|" }' docs/KERNEL.md | sort > "$made/kept"
 diff "$made/rows" "$made/kept" > "$made/differences" || fail "docs/KERNEL.md tells other numbers (< the library, > the page): $(cat "$made/differences")"
 
 # A copy of bytes is a call of memmove, without a frame for the page that the source names.

@@ -100,7 +100,7 @@ pub mod library {
             index: Words, index_len: usize, count: Table, count_len: usize,
             table: Table, table_len: usize, stack: Table, stack_len: usize,
             link: Table, link_len: usize) -> Answer;
-        pub fn corwystal_free(head: *const Head) -> Answer;
+        pub fn corwystal_free_count(head: *const Head) -> Answer;
         pub fn corwystal_translate(head: *const Head, space: u32, address: usize,
             index: Words, index_len: usize, count: Table, count_len: usize,
             table: Table, table_len: usize, helper: Table, helper_len: usize,
@@ -161,7 +161,7 @@ pub unsafe fn ask_library(ask: &Ask, loan: &Loan) -> Answer {
             index, n[0], count, n[1], table, n[2], helper, n[3], stack, n[4], cache, n[5]),
         Ask::Release(space, page) => library::corwystal_release(head, narrow(space), narrow(page),
             index, n[0], count, n[1], table, n[2], stack, n[4], link, n[6]),
-        Ask::Free => library::corwystal_free(head),
+        Ask::Free => library::corwystal_free_count(head),
         Ask::Translate(space, address) => library::corwystal_translate(head, narrow(space), address as usize,
             index, n[0], count, n[1], table, n[2], helper, n[3], stack, n[4], cache, n[5]),
         Ask::Read(space, address, length) => library::corwystal_read(head, narrow(space), address as usize,

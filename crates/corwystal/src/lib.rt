@@ -173,7 +173,7 @@ pub extern "C" fn corwystal_release(
 
 // The frames in the pool. Lent nothing but the head.
 #[no_mangle]
-pub extern "C" fn corwystal_free(head: &Head) -> Answer
+pub extern "C" fn corwystal_free_count(head: &Head) -> Answer
     ensures { λ r. ⌜ Encodes Free freeSays (λ a.
         (index count table helper stack cache link ram : List ℕ) →
         Did (λ _. machine.free) (memory (now (head .entry)) index count table helper stack cache link ram) (freeSays a) (memory (now (head .entry)) index count table helper stack cache link ram)) r ⌝ }

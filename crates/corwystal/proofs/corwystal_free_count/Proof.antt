@@ -1,4 +1,4 @@
--- `corwystal::corwystal_free` meets its contract: a walk of its MIR, by hand.
+-- `corwystal::corwystal_free_count` meets its contract: a walk of its MIR, by hand.
 -- Assumes nothing.
 use Rattle.board.proofs.Words.{refl, [], _∷_, List, URA, named, vptr, SProp, emp, via, fst∗, id⊢, Memory, Routine, Heap, WpFn, Tables, Atoms, Fun, givenOf, tables, tablesOf, Given, ‵, raw, _$_, _∵_, !, qed, no-more, fmOf, Valss, flat, owns, valss, ptr-vals, shr-tells, typesAt, calls-at, alive, Meets, tripleOf, Contract, Triple, ensured, entered, cited}
 use base.Fml.{ftrue}
@@ -20,10 +20,10 @@ use Rattle.coding.proofs.of_free.Symbol.{name as #h}
 use Rattle.coding.proofs.of_free.Met as h-thm
 use Rattle.board.proofs.Walks.{Kind, typesOf, spellsOf, tellsOf, typedOf, meets, enters, arg}
 use Rattle.corwystal.proofs.Passing.{hands-over, codes, told, plainly}
-use Rattle.corwystal.proofs.corwystal_free.Key.{name as #f}
-use Rattle.corwystal.proofs.corwystal_free as f
-use Rattle.corwystal.proofs.corwystal_free.Statement as stated
-use Rattle.corwystal.proofs.corwystal_free.Code as code
+use Rattle.corwystal.proofs.corwystal_free_count.Key.{name as #f}
+use Rattle.corwystal.proofs.corwystal_free_count as f
+use Rattle.corwystal.proofs.corwystal_free_count.Statement as stated
+use Rattle.corwystal.proofs.corwystal_free_count.Code as code
 
 abbrev Callee : {M : Type 1} (𝓤 : URA M) (H : Heap 𝓤) (A : Atoms 𝓤) (mem : Memory → SProp 𝓤) (run : Routine → Fun 𝓤) → Contract 𝓤
 Callee 𝓤 H A mem run = tripleOf 𝓤 H A g.signature (g.spec 𝓤 H A mem run)
@@ -51,9 +51,9 @@ module _ {M : Type 1} (𝓤 : URA M) (H : Heap 𝓤) (A : Atoms 𝓤) (W : Given
       (λ r y. told 𝓤 H A W (lasts g.ended κs a) (lasts h.ended tt (r, tt)) (plainly 𝓤 H A W (lasts g.ended κs a)) (λ ws _ promised numbers. record { answer = r; numbers-are = numbers; promised = promised }))
       refl refl refl tt refl))))
 
-pub corwystal-free-spec : {M : Type 1} → stated.statement M
+pub corwystal-free-count-spec : {M : Type 1} → stated.statement M
 unfolding code.routine tablesOf
-corwystal-free-spec 𝓤 H 𝓜 𝓖 𝓡 =
+corwystal-free-count-spec 𝓤 H 𝓜 𝓖 𝓡 =
     entered 𝓤 H (tripleOf 𝓤 H (𝓖 .A) f.signature (f.spec 𝓤 H (𝓖 .A) (𝓜 .mem) (𝓡 .run)))
     (tables 𝓤 H 𝓜 𝓡 code.env .C) (tables 𝓤 H 𝓜 𝓡 code.env .Λ) #f code.function (code.unfolded 𝓤 H 𝓜 𝓡)
     (f-meets 𝓤 H (𝓖 .A) (givenOf 𝓤 H 𝓜 𝓖) (𝓜 .mem) (𝓡 .run) (tablesOf 𝓤 H 𝓜 (tables 𝓤 H 𝓜 𝓡 code.env))

@@ -1,0 +1,21 @@
+//! What the Rust module answers ignored, one a line: rustc must warn of each. Compiled, never run.
+use corwystal::{Pager, Refusal, Region, Sizes, index_words};
+
+pub fn ignore(pager: &mut Pager<'_>, sizes: Sizes, bytes: &mut [u8], records: &mut [Region]) {
+    index_words(8);
+    sizes.needs();
+    Refusal::Size.number();
+    pager.restart(sizes);
+    pager.mark(0, 0);
+    pager.drop_start(0, 0);
+    pager.touch(0, 0);
+    pager.look(0, 0);
+    pager.look(0, 0).unwrap();
+    pager.release(0, 0);
+    pager.free_count();
+    pager.translate(0, 0);
+    pager.read(0, 0, bytes);
+    pager.write(0, 0, bytes);
+    pager.list(0, records);
+    pager.frame(0);
+}
