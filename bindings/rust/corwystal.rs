@@ -16,7 +16,7 @@
 
 use core::fmt;
 
-/// S spaces of N pages, F frames of P bytes: document 01, "Sizes".
+/// S spaces of N pages, F frames of P bytes: docs/SPECIFICATION.md, Sizes.
 #[derive(Clone, Copy, Debug, PartialEq, Eq)]
 pub struct Sizes {
     /// S, from 1 to 64.
@@ -72,7 +72,7 @@ impl Sizes {
     }
 }
 
-/// Why a call was refused; nothing was changed. The numbers are document 01's.
+/// Why a call was refused; nothing was changed. The numbers are those of docs/SPECIFICATION.md.
 #[derive(Clone, Copy, Debug, PartialEq, Eq)]
 #[repr(u32)]
 pub enum Refusal {
@@ -101,7 +101,7 @@ pub enum Refusal {
 }
 
 impl Refusal {
-    /// The number that document 01 has for it, 1 to 11.
+    /// Its number in docs/SPECIFICATION.md, 1 to 11.
     #[must_use]
     pub fn number(self) -> u32 {
         self as u32

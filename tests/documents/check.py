@@ -11,6 +11,7 @@
     one crate or folder, those of `Record.field` in a file that declares the record, and `names` with a file in brackets after them in that file.
   - Every command in an indented or fenced block that starts with a program of this repository names one that is there and can be run, and is in
     one of two lists: those that are run here, and those that are not, with the reason.
+  - Every session that a document prints, a line and its answer in columns, is played, and answered so.
   - README.md's list of crates has each of crates.txt once, above those that it uses or before them in its line.
 docs/landings tells of the past: only its lines are measured.
 """
@@ -355,6 +356,23 @@ class Check:
                     self.tell(document, line, f"{command}: its answers aren't those of {os.path.relpath(answers, ROOT)}; see which are right")
 
 
+    def sessions(self, document):
+        """Plays the blocks that begin with a start and have an answer beside each line; answers how many there are."""
+        blocks = []
+        for line, text in document.block:
+            if not blocks or blocks[-1][-1][0] + 1 != line:
+                blocks.append([])
+            blocks[-1].append((line, re.split(r" {2,}", text.strip())))
+        sessions = [b for b in blocks if b[0][1][0].startswith("start ") and all(len(columns) > 1 for _, columns in b)]
+        for block in sessions:
+            script = "".join(columns[0] + "\n" for _, columns in block)
+            answers = subprocess.run([os.path.join(ROOT, "target/bin/play")], input=script, capture_output=True, text=True, timeout=60).stdout.splitlines()
+            for (line, columns), answer in zip(block, answers + [""] * len(block)):
+                if answer != columns[1]:
+                    self.tell(document, line, f"{columns[0]}: is answered {answer!r} by the program; mend the session")
+        return len(sessions)
+
+
 def main():
     dry = sys.argv[1:2] == ["--dry"]
     if len(sys.argv) not in ((3,) if dry else (1,)):
@@ -374,14 +392,16 @@ def main():
             check.crates(document)
     check.gone()
     commands, to_run = check.commands()
+    sessions = 0
     if not dry and not check.faults:
         for command, (document, line) in to_run:
             check.run(command, document, line)
+        sessions = sum(check.sessions(document) for document in told)
     for name, line, what in sorted(check.faults):
         print(f"{name}:{line}: {what}", file=sys.stderr)
     if check.faults:
         sys.exit(f"documents: {len(check.faults)} wrong")
-    print(f"documents: {len(documents)} files, {len(check.names)} names, {commands} commands, {len(to_run)} of them run")
+    print(f"documents: {len(documents)} files, {len(check.names)} names, {commands} commands, {len(to_run)} of them run, {sessions} sessions")
 
 
 main()
