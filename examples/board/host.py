@@ -369,7 +369,8 @@ class Day:
         filed = {(g, n) for g in range(GAUGES) for n in self.shore.filed[g]}
         lost = acknowledged - filed
         if lost != self.lost_with_ram:
-            wrong.append(f"{len(lost - self.lost_with_ram)} readings were acknowledged and lost, {len(self.lost_with_ram - lost)} came that were lost with the RAM")
+            wrong.append(f"{len(lost - self.lost_with_ram)} readings were acknowledged and lost, "
+                         f"{len(self.lost_with_ram - lost)} came that were lost with the RAM")
         if filed - acknowledged:
             wrong.append(f"{len(filed - acknowledged)} readings went up the line and were never acknowledged")
         if len(acknowledged) != sum(len(g.made) for g in self.gauges):
@@ -377,8 +378,9 @@ class Day:
         tested = {"forget": lost, "kill": self.shore.again, "chatty": self.turned_away, "noise": self.shore.repeated}
         if not tested.get(self.words.play, True):
             wrong.append("what the play is for did not happen")
-        print(f"{self.words.play}: {len(acknowledged)} readings acknowledged, {len(filed)} filed, {len(lost)} lost with the RAM, {self.turned_away} rounds refused "
-              f"for want of a frame, {self.shore.repeated} parts sent again, {self.shore.again} readings again after a start: {'BAD' if wrong else 'good'}")
+        print(f"{self.words.play}: {len(acknowledged)} readings acknowledged, {len(filed)} filed, {len(lost)} lost with the RAM, "
+              f"{self.turned_away} rounds refused for want of a frame, {self.shore.repeated} parts sent again, {self.shore.again} readings again "
+              f"after a start: {'BAD' if wrong else 'good'}")
         return wrong
 
 

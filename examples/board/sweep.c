@@ -6,10 +6,10 @@
  *   with the vector registers turned off, so that any use of one is a fault;
  *   with a stack that is not aligned;
  *   and then once for each of its instructions, with the timer's interrupt just before that one.
- * Traps and interrupts come on the stack of the call, and their handler changes all that it may: the memory below the stack pointer, the vector
- * registers, and every other register before it puts it back. A scene has passed if every answer and every byte is as undisturbed, and if the
- * timer's interrupts came at just the instructions that the traps told of, each in its turn: so none was left out. Needs QEMU's
- * -icount shift=0, by which the timer counts instructions.
+ * But for the telling ones, traps and interrupts come on the stack of the call, and their handler changes all that it may: the memory below the stack
+ * pointer, the vector registers, and every other register before it puts it back. A scene has passed if every answer and every byte is as
+ * undisturbed, and if the timer's interrupts came at just the instructions that the traps told of, each in its turn: so none was left out. Needs
+ * QEMU's -icount shift=0, by which the timer counts instructions.
  */
 #include "corwystal_board.h"
 #include "machine.h"
@@ -360,7 +360,7 @@ static uint64_t interrupt_each(void) {
     return turn;
 }
 
-/* A line for each scene: call, how; instructions of the library, bytes of stack, interrupts. */
+/* A line for each scene: call, how; instructions of the library, bytes of stack, interrupts. One that is too long to be noted whole has not passed. */
 static int play(const struct scene *s) {
     scene = s;
     wrong = 0;
@@ -388,12 +388,17 @@ static int play(const struct scene *s) {
     say("scene %s: %s: %u instructions, %u bytes of stack, %u interrupts, %u wrong, %u otherwise wrong\n", s->call, s->how, inside,
         entry_stack - deepest + 8, turns, wrong - otherwise, otherwise);
     if (turns != many) say("sweep: %s %s: no interrupt at %u of its %u instructions\n", s->call, s->how, many - turns, many);
-    return !wrong && turns == many;
+    if (!many || many == MOST_STEPS) say("sweep: %s %s: %u instructions can't be noted whole\n", s->call, s->how, many);
+    return !wrong && turns == many && many && many < MOST_STEPS;
 }
 
 _Noreturn void sweep(void) {
     int good = 1;
     uint64_t places = 0;
+    if ((size_t)(pager_to - pager_from) > sizeof met) {
+        say("sweep: the library has %u bytes of code, more than are noted: make met longer\n", (uint64_t)(pager_to - pager_from));
+        leave(1);
+    }
     vector_registers(1);
     for (size_t k = 0; k < SCENES; k++) good &= play(&scenes[k]);
     for (size_t k = 0; k < sizeof met; k++) places += met[k];

@@ -9,7 +9,8 @@ a kernel has no dynamic linker, no C library but memmove and memset, and may cal
   - instructions of the general registers only, each one of a list of plain ones (no vector or x87 register, no segment, no system instruction, none
     that wants its operand aligned);
   - no use of memory below the stack pointer: every path through the function is followed, with the stack pointer and each register that holds an
-    address of the stack; what can't be followed (a computed jump, an aligned or unknown stack pointer) is a fault too;
+    address of the stack; what can't be followed (a computed jump, an aligned or unknown stack pointer) is a fault too. An address of the stack that
+    goes through memory or to a callee is not followed there: it is looked at when it is made, and must then be at the stack pointer or above it;
 and of the library: no writable data, no thread's or constructors' sections, no relocation but R_X86_64_PLT32, no undefined name but memmove and memset.
 The bytes of stack of a function are those below its caller's stack pointer at the call: its return address, its frame and the deepest of its callees.
 memmove and memset are counted with their return address alone. The instructions are those of the longest path, callees included.
