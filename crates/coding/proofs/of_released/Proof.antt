@@ -3,21 +3,6 @@ use borrow.Author.Needs.{needs}
 use Rattle.coding.proofs.of_released.Statement.{statement}
 use Rattle.coding.proofs.of_released.Tie as tie
 
-enum-known-a : tie.Need-enum-known-a
-enum-known-a c = search needs
-
-cast-numbers : tie.Need-cast-numbers
-cast-numbers c = search needs
-
-numbers-requires : tie.Need-numbers-requires
-numbers-requires c κs = search needs
-
-enum-known-a-2 : tie.Need-enum-known-a-2
-enum-known-a-2 c = search needs
-
-numbers-requires-2 : tie.Need-numbers-requires-2
-numbers-requires-2 c κs = search needs
-
 returns : tie.Need-returns
 returns c = rw (c .before .before .a .given .1) (c .numbers .ensures)
 
@@ -28,10 +13,10 @@ pub of-released-spec : {M : Type 1} → statement M
 of-released-spec =
     tie.close
     (tie.spec
-    enum-known-a
-    cast-numbers
-    numbers-requires
-    enum-known-a-2
-    numbers-requires-2
+    (λ c. search needs)
+    (λ c. search needs)
+    (λ c κs. search needs)
+    (λ c. search needs)
+    (λ c κs. search needs)
     returns
     returns-2)

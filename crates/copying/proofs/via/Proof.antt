@@ -8,12 +8,6 @@ use borrow.Author.Needs.{needs}
 use Rattle.copying.proofs.via.Statement.{statement}
 use Rattle.copying.proofs.via.Tie as tie
 
-copy-requires : tie.Need-copy-requires
-copy-requires c κs = search needs
-
-slice-reshare-prefix-copy : tie.Need-slice-reshare-prefix-copy
-slice-reshare-prefix-copy c = search needs
-
 slice-aggregate-copy : tie.Need-slice-aggregate-copy
 slice-aggregate-copy c =
     let here = c .before .before .before in
@@ -26,12 +20,6 @@ copy-requires-2 c κs =
     let far = here .before .before .before .before .before in
     subst (λ (l : List ℕ). length l ≤ length ((far .args) .dst .now)) (sym (front ((far .args) .src .now) ((far .args) .page .now) _ _ ((here .copy) .ensures .0) ((here .copy) .ensures .1))) ((far .pre) .1)
 
-same-length : tie.Need-same-length
-same-length c = search needs
-
-same-length-2 : tie.Need-same-length-2
-same-length-2 c = search needs
-
 returns : tie.Need-returns
 returns c =
     let here = c .before .before in
@@ -43,10 +31,10 @@ pub via-spec : {M : Type 1} → statement M
 via-spec =
     tie.close
     (tie.spec
-    copy-requires
-    slice-reshare-prefix-copy
+    (λ c κs. search needs)
+    (λ c. search needs)
     slice-aggregate-copy
     copy-requires-2
-    same-length
-    same-length-2
+    (λ c. search needs)
+    (λ c. search needs)
     returns)

@@ -17,12 +17,6 @@ loop-holds c = none-counted
 start-below-requires : tie.Need-start-below-requires Inv-loop μ-loop
 start-below-requires c κs = omega arith
 
-enum-known-a : tie.Need-enum-known-a Inv-loop μ-loop
-enum-known-a c = search needs
-
-enum-told : tie.Need-enum-told Inv-loop μ-loop
-enum-told c = search needs
-
 returns : tie.Need-returns Inv-loop μ-loop
 returns c =
     let s = c .before .before in
@@ -50,8 +44,8 @@ count-regions-spec =
     μ-loop
     loop-holds
     start-below-requires
-    enum-known-a
-    enum-told
+    (λ c. search needs)
+    (λ c. search needs)
     returns
     add-n
     loop-less

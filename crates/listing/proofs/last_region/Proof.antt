@@ -5,15 +5,6 @@ use borrow.Author.Needs.{needs}
 use Rattle.listing.proofs.last_region.Statement.{statement}
 use Rattle.listing.proofs.last_region.Tie as tie
 
-sub-left : tie.Need-sub-left
-sub-left c = search needs
-
-start-below-requires : tie.Need-start-below-requires
-start-below-requires c κs = search needs
-
-enum-known-a : tie.Need-enum-known-a
-enum-known-a c = search needs
-
 mul-region-at : tie.Need-mul-region-at
 mul-region-at c =
     let s = c .before .before .before in
@@ -33,9 +24,6 @@ region-at-requires c κs =
     let asked = s .before .before .before .before .pre in
     region-asks (asked .0) (asked .1) (s .start-below .ensures) (c .before .before .a .given .1)
 
-enum-told : tie.Need-enum-told
-enum-told c = search needs
-
 returns : tie.Need-returns
 returns c =
     let s = c .before .before .before .before .before in
@@ -52,12 +40,12 @@ pub last-region-spec : {M : Type 1} → statement M
 last-region-spec =
     tie.close
     (tie.spec
-    sub-left
-    start-below-requires
-    enum-known-a
+    (λ c. search needs)
+    (λ c κs. search needs)
+    (λ c. search needs)
     mul-region-at
     shared-slice-read-region-at
     region-at-requires
-    enum-told
+    (λ c. search needs)
     returns
     returns-2)

@@ -7,25 +7,10 @@ use Rattle.listing.proofs.start_below.Tie as tie
 returns : tie.Need-returns
 returns c = no-pages _ _ _ _ (c .if1 .taken)
 
-sub-find : tie.Need-sub-find
-sub-find c = search needs
-
-find-requires : tie.Need-find-requires
-find-requires c κs = search needs
-
-enum-known-a : tie.Need-enum-known-a
-enum-known-a c = search needs
-
 returns-2 : tie.Need-returns-2
 returns-2 c =
     let f = c .before .before .before .before in
     found-lower _ _ _ _ (f .before .before .before .pre) (f .before .if1 .left) _ (f .find .ensures) _ _ (c .before .before .a .given .1) (c .if2 .taken)
-
-enum-told : tie.Need-enum-told
-enum-told c = search needs
-
-enum-told-2 : tie.Need-enum-told-2
-enum-told-2 c = search needs
 
 returns-3 : tie.Need-returns-3
 returns-3 c =
@@ -47,12 +32,12 @@ start-below-spec =
     tie.close
     (tie.spec
     returns
-    sub-find
-    find-requires
-    enum-known-a
+    (λ c. search needs)
+    (λ c κs. search needs)
+    (λ c. search needs)
     returns-2
-    enum-told
-    enum-told-2
+    (λ c. search needs)
+    (λ c. search needs)
     returns-3
     returns-4
     returns-5)

@@ -5,12 +5,6 @@ use borrow.Author.Needs.{needs}
 use Rattle.listing.proofs.survey.Statement.{statement}
 use Rattle.listing.proofs.survey.Tie as tie
 
-check-requires : tie.Need-check-requires
-check-requires c κs = search needs
-
-refused-requires : tie.Need-refused-requires
-refused-requires c κs = search needs
-
 returns : tie.Need-returns
 returns c = rw (c .refused .ensures) (refused-early _ _ _ _ _ _ (c .before .before .check .ensures) (c .before .if1 .taken))
 
@@ -19,9 +13,6 @@ all-places-requires c κs = sizes-pass _ _ _ _ _ (c .before .check .ensures) (c 
 
 place-requires : tie.Need-place-requires
 place-requires c κs = first-pass _ _ _ _ _ (c .before .before .check .ensures) (c .before .if1 .left)
-
-wide-requires : tie.Need-wide-requires
-wide-requires c κs = search needs
 
 add-end : tie.Need-add-end
 add-end c =
@@ -33,12 +24,6 @@ count-regions-requires : tie.Need-count-regions-requires
 count-regions-requires c κs =
     space-inside _ _ _ _ _ (c .before .before .before .before .check .ensures) (c .before .before .before .if1 .left)
     _ _ _ (c .before .before .all-places .ensures) (c .before .place .ensures) (c .wide .ensures)
-
-wide-requires-2 : tie.Need-wide-requires-2
-wide-requires-2 c κs = search needs
-
-refused-requires-2 : tie.Need-refused-requires-2
-refused-requires-2 c κs = search needs
 
 returns-2 : tie.Need-returns-2
 returns-2 c =
@@ -61,15 +46,15 @@ pub survey-spec : {M : Type 1} → statement M
 survey-spec =
     tie.close
     (tie.spec
-    check-requires
-    refused-requires
+    (λ c κs. search needs)
+    (λ c κs. search needs)
     returns
     all-places-requires
     place-requires
-    wide-requires
+    (λ c κs. search needs)
     add-end
     count-regions-requires
-    wide-requires-2
-    refused-requires-2
+    (λ c κs. search needs)
+    (λ c κs. search needs)
     returns-2
     returns-3)

@@ -5,12 +5,6 @@ use borrow.Author.Needs.{needs}
 use Rattle.marking.proofs.cut_pages.Statement.{statement}
 use Rattle.marking.proofs.cut_pages.Tie as tie
 
-find-requires : tie.Need-find-requires
-find-requires c κs = search needs
-
-enum-known-a : tie.Need-enum-known-a
-enum-known-a c = search needs
-
 mul-result : tie.Need-mul-result
 mul-result c = omega (arith, found-low _ _ _ _ ((c .before .before .before .before .find) .ensures) ((c .before .before .before .before .before .before .before .pre) .check-passes) _ _ ((c .before .before .a) .given .1))
 
@@ -19,12 +13,6 @@ shared-slice-read-result c = omega (arith, found-low _ _ _ _ ((c .before .before
 
 returns : tie.Need-returns
 returns c = cut-in-space _ _ _ _ ((c .before .before .before .before .before .find) .ensures) _ _ _ _ ((c .before .before .before .a) .given .1) ((c .before .if1) .taken)
-
-enum-told : tie.Need-enum-told
-enum-told c = search needs
-
-enum-told-2 : tie.Need-enum-told-2
-enum-told-2 c = search needs
 
 returns-2 : tie.Need-returns-2
 returns-2 c = cut-in-lower-space _ _ _ _ ((c .before .before .before .before .find) .ensures) _ _ _ _ ((c .before .before .a) .given .1) ((c .if1) .left)
@@ -39,13 +27,13 @@ pub cut-pages-spec : {M : Type 1} → statement M
 cut-pages-spec =
     tie.close
     (tie.spec
-    find-requires
-    enum-known-a
+    (λ c κs. search needs)
+    (λ c. search needs)
     mul-result
     shared-slice-read-result
     returns
-    enum-told
-    enum-told-2
+    (λ c. search needs)
+    (λ c. search needs)
     returns-2
     returns-3
     returns-4)

@@ -4,12 +4,6 @@ use borrow.Author.Needs.{needs}
 use Rattle.marking.proofs.drop.Statement.{statement}
 use Rattle.marking.proofs.drop.Tie as tie
 
-lent-requires : tie.Need-lent-requires
-lent-requires c κs = search needs
-
-check-requires : tie.Need-check-requires
-check-requires c κs = search needs
-
 returns : tie.Need-returns
 returns c = drop-refused _ _ _ _ _ ((c .before .check) .ensures) _ _ ((c .before .before .before .lent) .ensures) ((c .if1) .taken)
 
@@ -22,9 +16,6 @@ place-requires c κs = page-pass _ _ _ _ _ ((c .before .before .before .check) .
 drop-at-requires : tie.Need-drop-at-requires
 drop-at-requires c κs = searchable _ _ _ _ _ ((c .before .before .before .before .check) .ensures) _ _ ((c .before .before .before .before .before .before .lent) .ensures) ((c .before .before .before .if1) .left) _ _ ((c .before .all-places) .ensures) ((c .place) .ensures)
 
-same-length : tie.Need-same-length
-same-length c = search needs
-
 returns-2 : tie.Need-returns-2
 returns-2 c =
     let passed = c .before .before .before .before .before .before in
@@ -34,11 +25,11 @@ pub drop-spec : {M : Type 1} → statement M
 drop-spec =
     tie.close
     (tie.spec
-    lent-requires
-    check-requires
+    (λ c κs. search needs)
+    (λ c κs. search needs)
     returns
     all-places-requires
     place-requires
     drop-at-requires
-    same-length
+    (λ c. search needs)
     returns-2)

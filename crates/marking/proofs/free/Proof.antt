@@ -7,9 +7,6 @@ use borrow.Author.Needs.{needs}
 use Rattle.marking.proofs.free.Statement.{statement}
 use Rattle.marking.proofs.free.Tie as tie
 
-sizes-ok-requires : tie.Need-sizes-ok-requires
-sizes-ok-requires c κs = search needs
-
 returns : tie.Need-returns
 returns c = not-started _ (failed ((c .before .sizes-ok) .ensures) ((c .if1) .taken))
 
@@ -26,4 +23,4 @@ returns-4 : tie.Need-returns-4
 returns-4 c = counted _ (held ((c .before .before .before .before .before .before .before .sizes-ok) .ensures) ((c .before .before .before .before .before .before .if1) .left)) ((c .before .before .before .before .if2) .left) ((c .before .before .if3) .left)
 
 pub free-spec : {M : Type 1} → statement M
-free-spec = tie.close (tie.spec sizes-ok-requires returns returns-2 returns-3 add-t5 returns-4)
+free-spec = tie.close (tie.spec (λ c κs. search needs) returns returns-2 returns-3 add-t5 returns-4)

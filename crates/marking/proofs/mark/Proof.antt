@@ -4,12 +4,6 @@ use borrow.Author.Needs.{needs}
 use Rattle.marking.proofs.mark.Statement.{statement}
 use Rattle.marking.proofs.mark.Tie as tie
 
-lent-requires : tie.Need-lent-requires
-lent-requires c κs = search needs
-
-check-requires : tie.Need-check-requires
-check-requires c κs = search needs
-
 returns : tie.Need-returns
 returns c = mark-refused _ _ _ _ _ ((c .before .check) .ensures) _ _ ((c .before .before .before .lent) .ensures) ((c .if1) .taken)
 
@@ -25,9 +19,6 @@ place-requires-2 c κs = page-pass _ _ _ _ _ ((c .before .before .before .before
 mark-at-requires : tie.Need-mark-at-requires
 mark-at-requires c κs = searchable _ _ _ _ _ ((c .before .before .before .before .before .check) .ensures) _ _ ((c .before .before .before .before .before .before .before .lent) .ensures) ((c .before .before .before .before .if1) .left) _ _ ((c .before .before .before .all-places) .ensures) ((c .place2) .ensures)
 
-same-length : tie.Need-same-length
-same-length c = search needs
-
 returns-2 : tie.Need-returns-2
 returns-2 c =
     let passed = c .before .before .before .before .before .before .before in
@@ -37,12 +28,12 @@ pub mark-spec : {M : Type 1} → statement M
 mark-spec =
     tie.close
     (tie.spec
-    lent-requires
-    check-requires
+    (λ c κs. search needs)
+    (λ c κs. search needs)
     returns
     all-places-requires
     place-requires
     place-requires-2
     mark-at-requires
-    same-length
+    (λ c. search needs)
     returns-2)

@@ -4,41 +4,14 @@ use borrow.Author.Needs.{needs}
 use Rattle.marking.proofs.start.Statement.{statement}
 use Rattle.marking.proofs.start.Tie as tie
 
-of-requires : tie.Need-of-requires
-of-requires c κs = search needs
-
-enum-known-size : tie.Need-enum-known-size
-enum-known-size c = search needs
-
-enum-told : tie.Need-enum-told
-enum-told c = search needs
-
-not-started-requires : tie.Need-not-started-requires
-not-started-requires c κs = search needs
-
 returns : tie.Need-returns
 returns c = start-no-size _ _ _ _ _ _ _ _ ((c .before .before .before .of) .ensures) _ _ _ ((c .before .enum-told) .given .1) ((c .not-started) .ensures)
-
-lent-requires : tie.Need-lent-requires
-lent-requires c κs = search needs
-
-check-requires : tie.Need-check-requires
-check-requires c κs = search needs
-
-not-started-requires-2 : tie.Need-not-started-requires-2
-not-started-requires-2 c κs = search needs
 
 returns-2 : tie.Need-returns-2
 returns-2 c = start-refused _ _ _ _ _ _ _ _ ((c .before .before .before .before .before .before .before .of) .ensures) _ ((c .before .before .before .before .before .size) .given .1) _ _ ((c .before .before .before .lent) .ensures) ((c .before .before .check) .ensures) _ _ ((c .before .if1) .taken) ((c .not-started2) .ensures)
 
 begin-requires : tie.Need-begin-requires
 begin-requires c κs = start-ready _ _ _ _ _ ((c .before .before .before .before .lent) .ensures) ((c .before .before .before .check) .ensures) ((c .before .before .if1) .left)
-
-same-length : tie.Need-same-length
-same-length c = search needs
-
-same-length-2 : tie.Need-same-length-2
-same-length-2 c = search needs
 
 returns-3 : tie.Need-returns-3
 returns-3 c =
@@ -49,16 +22,16 @@ pub start-spec : {M : Type 1} → statement M
 start-spec =
     tie.close
     (tie.spec
-    of-requires
-    enum-known-size
-    enum-told
-    not-started-requires
+    (λ c κs. search needs)
+    (λ c. search needs)
+    (λ c. search needs)
+    (λ c κs. search needs)
     returns
-    lent-requires
-    check-requires
-    not-started-requires-2
+    (λ c κs. search needs)
+    (λ c κs. search needs)
+    (λ c κs. search needs)
     returns-2
     begin-requires
-    same-length
-    same-length-2
+    (λ c. search needs)
+    (λ c. search needs)
     returns-3)

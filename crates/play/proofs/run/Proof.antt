@@ -14,15 +14,6 @@ abbrev μ-loop : tie.MeasureT-loop
 μ-loop input₀ out₀ buffer₀ records₀ index₀ count₀ table₀ helper₀ stack₀ cache₀ link₀ ram₀ head₀ kept₀ is-long₀ turns₀ input out buffer records index count table helper stack cache link ram head kept is-long turns =
     turns
 
-no-start-requires : tie.Need-no-start-requires Inv-loop μ-loop
-no-start-requires c κs = search needs
-
-loop-holds : tie.Need-loop-holds Inv-loop μ-loop
-loop-holds c = search needs
-
-take-turn-requires : tie.Need-take-turn-requires Inv-loop μ-loop
-take-turn-requires c κs = search needs
-
 turns-left-requires : tie.Need-turns-left-requires Inv-loop μ-loop
 turns-left-requires c κs = c .before .before .before .before .before .before .before .before .before .before .before .before .before .before .before .before .before .before .before .before .before .before .before .before .before .before .before .before .before .before .before .before .before .before .before .before .before .before .loop-test .taken
 
@@ -98,9 +89,6 @@ back-out c = back-buffer c .before .before
 abbrev at-loop : tie.After-slice-known35 Inv-loop μ-loop → tie.At-loop Inv-loop μ-loop
 at-loop c = back-out c .before .before .before .before .before .before .before .before .before .before .before .before .before .before .before
 
-answer-last-requires : tie.Need-answer-last-requires Inv-loop μ-loop
-answer-last-requires c κs = search needs
-
 same-length : tie.Need-same-length Inv-loop μ-loop
 same-length c = at-loop c .loop .inv .0
 
@@ -137,22 +125,19 @@ same-length-11 c = back-link c .link2 .given ∙ at-loop c .loop .inv .1 .link-l
 same-length-12 : tie.Need-same-length-12 Inv-loop μ-loop
 same-length-12 c = back-ram c .ram2 .given ∙ at-loop c .loop .inv .1 .ram-long
 
-returns : tie.Need-returns Inv-loop μ-loop
-returns c = search needs
-
 pub run-spec : {M : Type 1} → statement M
 run-spec =
     tie.close
     (tie.spec
     Inv-loop
     μ-loop
-    no-start-requires
-    loop-holds
-    take-turn-requires
+    (λ c κs. search needs)
+    (λ c. search needs)
+    (λ c κs. search needs)
     turns-left-requires
     loop-less
     loop-again
-    answer-last-requires
+    (λ c κs. search needs)
     same-length
     same-length-2
     same-length-3
@@ -165,4 +150,4 @@ run-spec =
     same-length-10
     same-length-11
     same-length-12
-    returns)
+    (λ c. search needs))

@@ -70,9 +70,6 @@ loop-again c =
     let p = c .before .before .before .before in
     copying-more _ _ _ _ _ _ _ _ (p .before .before .loop .inv) (within p) (c .before .buffer .given .0) (c .before .before .read-part .ensures)
 
-same-length : tie.Need-same-length Inv-loop μ-loop
-same-length c = search needs
-
 returns : tie.Need-returns Inv-loop μ-loop
 returns c = copying-all _ _ _ _ _ _ (c .before .loop .inv) (c .loop-test .left)
 
@@ -93,5 +90,5 @@ copy-out-spec =
     read-part-requires
     loop-less
     loop-again
-    same-length
+    (λ c. search needs)
     returns)

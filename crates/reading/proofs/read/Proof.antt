@@ -64,12 +64,6 @@ inside c =
 small : (c : tie.In-loop Inv-loop μ-loop) → c .before .loop .page < 262144
 small c = let e = passed (c .before) in page-fits (entry (e .before) .args .head) _ (span e .sizes-ok) (inside c)
 
-span-inside-requires : tie.Need-span-inside-requires Inv-loop μ-loop
-span-inside-requires c κs = search needs
-
-check-requires : tie.Need-check-requires Inv-loop μ-loop
-check-requires c κs = search needs
-
 returns : tie.Need-returns Inv-loop μ-loop
 returns c = λ link. read-early _ _ (lent (entry (c .before)) link) _ _ (checked (c .before) link) (c .if1 .taken)
 
@@ -92,12 +86,6 @@ cast-look-checked c = omega (arith, small c)
 
 look-checked-requires : tie.Need-look-checked-requires Inv-loop μ-loop
 look-checked-requires c κs = pages (passed (c .before)) _ (inside c)
-
-enum-told : tie.Need-enum-told Inv-loop μ-loop
-enum-told c = search needs
-
-absence-requires : tie.Need-absence-requires Inv-loop μ-loop
-absence-requires c κs = search needs
 
 returns-2 : tie.Need-returns-2 Inv-loop μ-loop
 returns-2 c = λ link.
@@ -125,9 +113,6 @@ loop-again c =
 copy-out-requires : tie.Need-copy-out-requires Inv-loop μ-loop
 copy-out-requires c κs = let e = passed (c .before .before) in (span e, pages e)
 
-same-length : tie.Need-same-length Inv-loop μ-loop
-same-length c = search needs
-
 returns-3 : tie.Need-returns-3 Inv-loop μ-loop
 returns-3 c = λ link.
     let o = c .before .before .before .before .before in
@@ -141,8 +126,8 @@ read-spec =
     (tie.spec
     Inv-loop
     μ-loop
-    span-inside-requires
-    check-requires
+    (λ c κs. search needs)
+    (λ c κs. search needs)
     returns
     page-of-requires
     pages-requires
@@ -150,12 +135,12 @@ read-spec =
     loop-holds
     cast-look-checked
     look-checked-requires
-    enum-told
-    absence-requires
+    (λ c. search needs)
+    (λ c κs. search needs)
     returns-2
     add-page
     loop-less
     loop-again
     copy-out-requires
-    same-length
+    (λ c. search needs)
     returns-3)

@@ -37,9 +37,6 @@ look-of c = c .before .before .before .before .before .before
 ends : (c : tie.After-ram-place) → let s = entry (look-of c .before) in c .ram-place .result + length (s .args .dst .now) ≤ length (s .args .ram .now)
 ends c = part-ends _ _ _ _ _ (entry (look-of c .before) .pre .0) _ _ (c .ram-place .ensures) (c .before .if1 .left)
 
-page-of-requires : tie.Need-page-of-requires
-page-of-requires c κs = search needs
-
 cast-look-checked : tie.Need-cast-look-checked
 cast-look-checked c =
     let s = entry c in
@@ -47,9 +44,6 @@ cast-look-checked c =
 
 look-checked-requires : tie.Need-look-checked-requires
 look-checked-requires c κs = let s = entry c in s .pre .1 _ (omega (arith, c .page-of .ensures, part-page _ _ _ _ _ (s .pre .0)))
-
-enum-known-found : tie.Need-enum-known-found
-enum-known-found c = search needs
 
 returns : tie.Need-returns
 returns c = λ link.
@@ -63,17 +57,8 @@ returns-2 c = λ link.
     let s = entry (l .before) in
     part-beyond (lent s link) _ _ _ (s .pre .0) (l .look-checked .result) (looked l link) _ (c .before .before .before .found .given .1) (c .if1 .taken) _
 
-ram-place-requires : tie.Need-ram-place-requires
-ram-place-requires c κs = search needs
-
 add-to : tie.Need-add-to
 add-to c = omega (arith, part-low _ _ _ _ _ (entry (look-of c .before) .pre .0) _ _ (c .ram-place .ensures) (c .before .if1 .left))
-
-sub-copy : tie.Need-sub-copy
-sub-copy c = search needs
-
-part-copy-start : tie.Need-part-copy-start
-part-copy-start c = search needs
 
 part-copy-end : tie.Need-part-copy-end
 part-copy-end c = omega (arith, ends c)
@@ -84,9 +69,6 @@ copy-requires c κs =
     let s = entry (look-of p .before) in
     let long = part-long _ _ _ _ _ (s .pre .0) _ _ (p .ram-place .ensures) (p .before .if1 .left) in
     (omega (arith, long, part-small _ _ _ _ _ (s .pre .0)), omega (arith, long))
-
-same-length : tie.Need-same-length
-same-length c = search needs
 
 returns-3 : tie.Need-returns-3
 returns-3 c = λ link.
@@ -100,17 +82,17 @@ pub read-part-spec : {M : Type 1} → statement M
 read-part-spec =
     tie.close
     (tie.spec
-    page-of-requires
+    (λ c κs. search needs)
     cast-look-checked
     look-checked-requires
-    enum-known-found
+    (λ c. search needs)
     returns
     returns-2
-    ram-place-requires
+    (λ c κs. search needs)
     add-to
-    sub-copy
-    part-copy-start
+    (λ c. search needs)
+    (λ c. search needs)
     part-copy-end
     copy-requires
-    same-length
+    (λ c. search needs)
     returns-3)

@@ -36,12 +36,6 @@ looked : (c : tie.After-look-checked) (link ram : List ℕ)
     Did (look (entry (c .before .before .before) .args .space) (entry (c .before .before .before) .args .address / sizesOf (k .head) .page)) k (lookedSays (c .look-checked .result)) k
 looked c link ram = rw (← c .before .page-of .ensures) (c .look-checked .ensures link ram)
 
-address-inside-requires : tie.Need-address-inside-requires
-address-inside-requires c κs = search needs
-
-check-requires : tie.Need-check-requires
-check-requires c κs = search needs
-
 returns : tie.Need-returns
 returns c = λ link ram. translate-early _ _ (lent (entry (c .before)) link ram) _ (checked (c .before) link ram) (c .if1 .taken)
 
@@ -60,12 +54,6 @@ look-checked-requires c κs =
     let p = c .before .if1 .left in
     let y = address-ready _ _ _ _ _ e p in
     lookable _ _ _ _ _ _ _ _ _ _ (y .sizes-ok) (y .space) (y .lent) _ (omega (arith, c .page-of .ensures, address-page _ _ _ _ _ e p))
-
-enum-known-found : tie.Need-enum-known-found
-enum-known-found c = search needs
-
-absence-requires : tie.Need-absence-requires
-absence-requires c κs = search needs
 
 returns-2 : tie.Need-returns-2
 returns-2 c = λ link ram.
@@ -90,14 +78,14 @@ pub translate-spec : {M : Type 1} → statement M
 translate-spec =
     tie.close
     (tie.spec
-    address-inside-requires
-    check-requires
+    (λ c κs. search needs)
+    (λ c κs. search needs)
     returns
     page-of-requires
     cast-look-checked
     look-checked-requires
-    enum-known-found
-    absence-requires
+    (λ c. search needs)
+    (λ c κs. search needs)
     returns-2
     ram-place-requires
     returns-3)

@@ -6,9 +6,6 @@ use borrow.Author.Needs.{needs}
 use Rattle.releasing.proofs.cut_of.Statement.{statement}
 use Rattle.releasing.proofs.cut_of.Tie as tie
 
-check-requires : tie.Need-check-requires
-check-requires c κs = search needs
-
 returns : tie.Need-returns
 returns c = cut-refused _ _ _ _ _ _ _ _ _ (c .before .check .ensures) (c .if1 .taken)
 
@@ -18,20 +15,8 @@ all-places-requires c κs = ready _ _ _ _ (sym (c .before .check .ensures) ∙ (
 place-requires : tie.Need-place-requires
 place-requires c κs = page-known _ _ _ _ (ready _ _ _ _ (sym (c .before .before .check .ensures) ∙ (c .before .if1) .left))
 
-is-set-requires : tie.Need-is-set-requires
-is-set-requires c κs = search needs
-
-enum-told : tie.Need-enum-told
-enum-told c = search needs
-
 cut-at-requires : tie.Need-cut-at-requires
 cut-at-requires c κs = tables-known _ _ _ _ (ready _ _ _ _ (sym (c .before .before .before .before .before .before .check .ensures) ∙ (c .before .before .before .before .before .if1) .left)) _ _ (c .before .before .before .before .all-places .ensures) (c .before .before .before .place .ensures)
-
-enum-told-2 : tie.Need-enum-told-2
-enum-told-2 c = search needs
-
-enum-told-3 : tie.Need-enum-told-3
-enum-told-3 c = search needs
 
 returns-2 : tie.Need-returns-2
 returns-2 c = cut-asked _ _ _ _ _ _ _ _ _ (c .before .before .before .before .before .before .before .check .ensures) (c .before .before .before .before .before .before .if1 .left) _ _ _ _ (c .before .before .before .is-set .ensures) (c .before .before .before .before .before .all-places .ensures) (c .before .before .before .before .place .ensures) (rw (c .before .enum-told .given .1) (c .cut-at .ensures))
@@ -46,15 +31,15 @@ pub cut-of-spec : {M : Type 1} → statement M
 cut-of-spec =
     tie.close
     (tie.spec
-    check-requires
+    (λ c κs. search needs)
     returns
     all-places-requires
     place-requires
-    is-set-requires
-    enum-told
+    (λ c κs. search needs)
+    (λ c. search needs)
     cut-at-requires
-    enum-told-2
-    enum-told-3
+    (λ c. search needs)
+    (λ c. search needs)
     returns-2
     returns-3
     returns-4)

@@ -6,26 +6,8 @@ use borrow.Author.Needs.{needs}
 use Rattle.sizing.proofs.needed.Statement.{statement}
 use Rattle.sizing.proofs.needed.Tie as tie
 
-of-requires : tie.Need-of-requires
-of-requires c κs = search needs
-
-enum-known-size : tie.Need-enum-known-size
-enum-known-size c = search needs
-
-enum-told : tie.Need-enum-told
-enum-told c = search needs
-
-no-sizes-requires : tie.Need-no-sizes-requires
-no-sizes-requires c κs = search needs
-
 returns : tie.Need-returns
 returns c = c .no-sizes .ensures ∙ no-page-size _ _ _ _ _ (c .before .before .before .of .ensures) _ (c .before .enum-told .given .1)
-
-sizes-ok-requires : tie.Need-sizes-ok-requires
-sizes-ok-requires c κs = search needs
-
-no-sizes-requires-2 : tie.Need-no-sizes-requires-2
-no-sizes-requires-2 c κs = search needs
 
 returns-2 : tie.Need-returns-2
 returns-2 c = c .no-sizes2 .ensures ∙ too-large _ _ _ _ _ (c .before .before .before .before .before .before .of .ensures) _ (c .before .before .before .before .size .given .1) (failed (c .before .before .sizes-ok .ensures) (c .before .if1 .taken))
@@ -35,9 +17,6 @@ all-places-requires c κs = held (c .before .sizes-ok .ensures) (c .if1 .left)
 
 index-words-requires : tie.Need-index-words-requires
 index-words-requires c κs = rw (c .all-places .ensures) (countable _ (held (c .before .before .sizes-ok .ensures) (c .before .if1 .left)))
-
-wide-requires : tie.Need-wide-requires
-wide-requires c κs = search needs
 
 ram-bytes-requires : tie.Need-ram-bytes-requires
 ram-bytes-requires c κs = held (c .before .before .before .before .sizes-ok .ensures) (c .before .before .before .if1 .left)
@@ -52,16 +31,16 @@ pub needed-spec : {M : Type 1} → statement M
 needed-spec =
     tie.close
     (tie.spec
-    of-requires
-    enum-known-size
-    enum-told
-    no-sizes-requires
+    (λ c κs. search needs)
+    (λ c. search needs)
+    (λ c. search needs)
+    (λ c κs. search needs)
     returns
-    sizes-ok-requires
-    no-sizes-requires-2
+    (λ c κs. search needs)
+    (λ c κs. search needs)
     returns-2
     all-places-requires
     index-words-requires
-    wide-requires
+    (λ c κs. search needs)
     ram-bytes-requires
     returns-3)

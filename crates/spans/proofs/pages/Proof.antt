@@ -8,9 +8,6 @@ use Rattle.spans.proofs.pages.Tie as tie
 returns : tie.Need-returns
 returns c = rw ((c .if1) .taken)
 
-sub-page-of : tie.Need-sub-page-of
-sub-page-of c = search needs
-
 add-page-of : tie.Need-add-page-of
 add-page-of c = omega (arith, space-small ((c .before .args) .h) ((c .before .pre) .0), (c .before .pre) .1)
 
@@ -34,7 +31,7 @@ pages-spec =
     tie.close
     (tie.spec
     returns
-    sub-page-of
+    (λ c. search needs)
     add-page-of
     page-of-requires
     page-of-requires-2

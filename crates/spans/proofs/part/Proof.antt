@@ -6,14 +6,8 @@ use borrow.Author.Needs.{needs}
 use Rattle.spans.proofs.part.Statement.{statement}
 use Rattle.spans.proofs.part.Tie as tie
 
-cast-whole : tie.Need-cast-whole
-cast-whole c = search needs
-
 shl-whole : tie.Need-shl-whole
 shl-whole c = omega (arith, shift-fits ((c .before .before .args) .h) (c .before .before .pre))
-
-offset-requires : tie.Need-offset-requires
-offset-requires c κs = search needs
 
 sub-whole : tie.Need-sub-whole
 sub-whole c = omega (arith, page-shifted ((c .before .before .before .args) .h) (c .before .before .before .pre), offset-low ((c .before .before .before .args) .h) (c .before .before .before .pre) _ _ ((c .offset) .ensures))
@@ -25,4 +19,4 @@ returns-2 : tie.Need-returns-2
 returns-2 c = part-whole ((c .before .before .before .before .args) .h) (c .before .before .before .before .pre) _ _ _ ((c .before .offset) .ensures) ((c .if1) .left)
 
 pub part-spec : {M : Type 1} → statement M
-part-spec = tie.close (tie.spec cast-whole shl-whole offset-requires sub-whole returns returns-2)
+part-spec = tie.close (tie.spec (λ c. search needs) shl-whole (λ c κs. search needs) sub-whole returns returns-2)

@@ -8,17 +8,8 @@ use borrow.Author.Needs.{needs}
 use Rattle.spans.proofs.ram_place.Statement.{statement}
 use Rattle.spans.proofs.ram_place.Tie as tie
 
-wide-requires : tie.Need-wide-requires
-wide-requires c κs = search needs
-
-cast-result : tie.Need-cast-result
-cast-result c = search needs
-
 shl-result : tie.Need-shl-result
 shl-result c = omega (arith, shift-fits ((c .before .before .before .args) .h) (c .before .before .before .pre))
-
-offset-requires : tie.Need-offset-requires
-offset-requires c κs = search needs
 
 add-result : tie.Need-add-result
 add-result c =
@@ -32,4 +23,4 @@ returns c =
 
 pub ram-place-spec : {M : Type 1} → statement M
 ram-place-spec =
-    tie.close (tie.spec wide-requires cast-result shl-result offset-requires add-result returns)
+    tie.close (tie.spec (λ c κs. search needs) (λ c. search needs) shl-result (λ c κs. search needs) add-result returns)

@@ -4,25 +4,10 @@ use borrow.Author.Needs.{needs}
 use Rattle.writing.proofs.settled.Statement.{statement}
 use Rattle.writing.proofs.settled.Tie as tie
 
-enum-known-seen : tie.Need-enum-known-seen
-enum-known-seen c = search needs
-
-enum-known-seen-2 : tie.Need-enum-known-seen-2
-enum-known-seen-2 c = search needs
-
-free-requires : tie.Need-free-requires
-free-requires c κs = search needs
-
-enum-known-n : tie.Need-enum-known-n
-enum-known-n c = search needs
-
 returns : tie.Need-returns
 returns c =
     let f = c .before .before .before .before in
     settled-short _ (f .before .before .before .before .pre) _ _ (f .free .ensures) _ _ (c .before .before .n .given .1) (f .before .before .seen2 .given .1) (c .if1 .taken)
-
-enum-known-n-2 : tie.Need-enum-known-n-2
-enum-known-n-2 c = search needs
 
 returns-2 : tie.Need-returns-2
 returns-2 c = settled-refused _ (c .before .before .before .pre) _ _ (c .before .seen .given .1)
@@ -41,12 +26,12 @@ pub settled-spec : {M : Type 1} → statement M
 settled-spec =
     tie.close
     (tie.spec
-    enum-known-seen
-    enum-known-seen-2
-    free-requires
-    enum-known-n
+    (λ c. search needs)
+    (λ c. search needs)
+    (λ c κs. search needs)
+    (λ c. search needs)
     returns
-    enum-known-n-2
+    (λ c. search needs)
     returns-2
     returns-3
     returns-4)

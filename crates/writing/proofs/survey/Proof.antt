@@ -52,9 +52,6 @@ cast-look-checked c = omega (arith, page-low c)
 look-checked-requires : tie.Need-look-checked-requires Inv-loop μ-loop
 look-checked-requires c κs = page-ready c
 
-absence-requires : tie.Need-absence-requires Inv-loop μ-loop
-absence-requires c κs = search needs
-
 returns : tie.Need-returns Inv-loop μ-loop
 returns c = counted-outside _ _ _ _ _ _ _ _ _ _ (looked-up (c .before .before)) ((c .before .before .before .before .before .loop) .inv) (c .before .if1 .taken) (c .if2 .taken)
 
@@ -86,7 +83,7 @@ survey-spec =
     loop-holds
     cast-look-checked
     look-checked-requires
-    absence-requires
+    (λ c κs. search needs)
     returns
     add-absent
     add-page

@@ -54,12 +54,6 @@ decision : (c : tie.After-settled)
     Decided (lent s) (s .args .space) (s .args .address) (s .args .bytes .now) (c .settled .result)
 decision c = decided (span (paged c)) (c .before .survey .ensures) (c .settled .ensures)
 
-span-inside-requires : tie.Need-span-inside-requires
-span-inside-requires c κs = search needs
-
-check-requires : tie.Need-check-requires
-check-requires c κs = search needs
-
 returns : tie.Need-returns
 returns c = early-refused (write _ _ _) (lent (entry (c .before))) _ (number (c .before)) (c .if1 .taken)
 
@@ -82,24 +76,6 @@ store-requires c κs =
     let all = resident-stay s (r .all-resident .ensures .yes (c .before .before .before .before .before .before .if2 .taken)) in
     (next-span s all, next-lookable s all)
 
-same-length : tie.Need-same-length
-same-length c = search needs
-
-same-length-2 : tie.Need-same-length-2
-same-length-2 c = search needs
-
-same-length-3 : tie.Need-same-length-3
-same-length-3 c = search needs
-
-same-length-4 : tie.Need-same-length-4
-same-length-4 c = search needs
-
-same-length-5 : tie.Need-same-length-5
-same-length-5 c = search needs
-
-same-length-6 : tie.Need-same-length-6
-same-length-6 c = search needs
-
 returns-2 : tie.Need-returns-2
 returns-2 c =
     let r = c .before .before .before .before .before .before .before .before .before .before in
@@ -112,21 +88,6 @@ survey-requires c κs = let s = span (c .before .before .before .before .before 
 
 settled-requires : tie.Need-settled-requires
 settled-requires c κs = admitted (span (c .before .before .before .before .before .before .before .before .before .before .before .before .before)) .sizes-ok
-
-same-length-7 : tie.Need-same-length-7
-same-length-7 c = search needs
-
-same-length-8 : tie.Need-same-length-8
-same-length-8 c = search needs
-
-same-length-9 : tie.Need-same-length-9
-same-length-9 c = search needs
-
-same-length-10 : tie.Need-same-length-10
-same-length-10 c = search needs
-
-same-length-11 : tie.Need-same-length-11
-same-length-11 c = search needs
 
 returns-3 : tie.Need-returns-3
 returns-3 c = refused-short (span (paged (c .before))) (decision (c .before)) (c .if3 .taken)
@@ -141,27 +102,6 @@ store-requires-2 c κs =
     let all = t .touch-all .ensures (entry (checked p) .args .ram .now) in
     (next-span (span p) all, next-lookable (span p) all)
 
-same-length-12 : tie.Need-same-length-12
-same-length-12 c = search needs
-
-same-length-13 : tie.Need-same-length-13
-same-length-13 c = search needs
-
-same-length-14 : tie.Need-same-length-14
-same-length-14 c = search needs
-
-same-length-15 : tie.Need-same-length-15
-same-length-15 c = search needs
-
-same-length-16 : tie.Need-same-length-16
-same-length-16 c = search needs
-
-same-length-17 : tie.Need-same-length-17
-same-length-17 c = search needs
-
-same-length-18 : tie.Need-same-length-18
-same-length-18 c = search needs
-
 returns-4 : tie.Need-returns-4
 returns-4 c =
     let t = touched (c .before .before .before) in
@@ -172,36 +112,36 @@ pub write-spec : {M : Type 1} → statement M
 write-spec =
     tie.close
     (tie.spec
-    span-inside-requires
-    check-requires
+    (λ c κs. search needs)
+    (λ c κs. search needs)
     returns
     page-of-requires
     pages-requires
     add-end
     all-resident-requires
     store-requires
-    same-length
-    same-length-2
-    same-length-3
-    same-length-4
-    same-length-5
-    same-length-6
+    (λ c. search needs)
+    (λ c. search needs)
+    (λ c. search needs)
+    (λ c. search needs)
+    (λ c. search needs)
+    (λ c. search needs)
     returns-2
     survey-requires
     settled-requires
-    same-length-7
-    same-length-8
-    same-length-9
-    same-length-10
-    same-length-11
+    (λ c. search needs)
+    (λ c. search needs)
+    (λ c. search needs)
+    (λ c. search needs)
+    (λ c. search needs)
     returns-3
     touch-all-requires
     store-requires-2
-    same-length-12
-    same-length-13
-    same-length-14
-    same-length-15
-    same-length-16
-    same-length-17
-    same-length-18
+    (λ c. search needs)
+    (λ c. search needs)
+    (λ c. search needs)
+    (λ c. search needs)
+    (λ c. search needs)
+    (λ c. search needs)
+    (λ c. search needs)
     returns-4)

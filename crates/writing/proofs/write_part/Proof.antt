@@ -16,9 +16,6 @@ entry c = c .before .before .before .before .before .before .before .before .bef
 abbrev look-of : tie.After-ram-place → tie.After-look-checked
 look-of c = c .before .before .before .before .before .before
 
-page-of-requires : tie.Need-page-of-requires
-page-of-requires c κs = search needs
-
 cast-look-checked : tie.Need-cast-look-checked
 cast-look-checked c =
     let pre = entry c .pre .0 in
@@ -26,9 +23,6 @@ cast-look-checked c =
 
 look-checked-requires : tie.Need-look-checked-requires
 look-checked-requires c κs = let s = entry c in s .pre .1 _ (omega (arith, c .page-of .ensures, part-page _ _ _ _ _ (s .pre .0)))
-
-enum-known-found : tie.Need-enum-known-found
-enum-known-found c = search needs
 
 returns : tie.Need-returns
 returns c =
@@ -42,17 +36,8 @@ returns-2 c =
     part-beyond _ _ _ _ _ _ _ _ _ _ _ (entry (l .before) .pre .0) (l .look-checked .result) _ (l .before .page-of .ensures) (l .look-checked .ensures) _
     (c .before .before .before .found .given .1) (c .if1 .taken)
 
-ram-place-requires : tie.Need-ram-place-requires
-ram-place-requires c κs = search needs
-
 add-to : tie.Need-add-to
 add-to c = omega (arith, part-low _ _ _ _ _ (entry (look-of c .before) .pre .0) _ _ (c .ram-place .ensures) (c .before .if1 .left))
-
-sub-copy : tie.Need-sub-copy
-sub-copy c = search needs
-
-part-copy-start : tie.Need-part-copy-start
-part-copy-start c = search needs
 
 part-copy-end : tie.Need-part-copy-end
 part-copy-end c = omega (arith, part-ends _ _ _ _ _ (entry (look-of c .before) .pre .0) _ _ (c .ram-place .ensures) (c .before .if1 .left))
@@ -62,9 +47,6 @@ copy-requires c κs =
     let p = c .before in
     let pre = entry (look-of p .before) .pre .0 in
     (omega (arith, part-small _ _ _ _ _ pre), omega (arith, part-long _ _ _ _ _ pre _ _ (p .ram-place .ensures) (p .before .if1 .left)))
-
-same-length : tie.Need-same-length
-same-length c = search needs
 
 returns-3 : tie.Need-returns-3
 returns-3 c =
@@ -77,17 +59,17 @@ pub write-part-spec : {M : Type 1} → statement M
 write-part-spec =
     tie.close
     (tie.spec
-    page-of-requires
+    (λ c κs. search needs)
     cast-look-checked
     look-checked-requires
-    enum-known-found
+    (λ c. search needs)
     returns
     returns-2
-    ram-place-requires
+    (λ c κs. search needs)
     add-to
-    sub-copy
-    part-copy-start
+    (λ c. search needs)
+    (λ c. search needs)
     part-copy-end
     copy-requires
-    same-length
+    (λ c. search needs)
     returns-3)

@@ -4,15 +4,6 @@ use Rattle.parsing.proofs.Reading.{end-here, more-here, took, took-none
 use Rattle.parsing.proofs.calls.list_line.Statement.{statement}
 use Rattle.parsing.proofs.calls.list_line.Tie as tie
 
-number-after-blank-requires : tie.Need-number-after-blank-requires
-number-after-blank-requires c κs = search needs
-
-enum-known-i : tie.Need-enum-known-i
-enum-known-i c = search needs
-
-enum-told : tie.Need-enum-told
-enum-told c = search needs
-
 returns : tie.Need-returns
 returns c = rw (took-none _ _ (c .before .before .number-after-blank .ensures) (c .enum-told .given .1))
 
@@ -31,4 +22,4 @@ returns-3 c =
 pub list-line-spec : {M : Type 1} → statement M
 list-line-spec =
     tie.close
-    (tie.spec number-after-blank-requires enum-known-i enum-told returns returns-2 returns-3)
+    (tie.spec (λ c κs. search needs) (λ c. search needs) (λ c. search needs) returns returns-2 returns-3)

@@ -5,12 +5,6 @@ use Rattle.parsing.proofs.Names.{named-long, named-parsed, not-named, s
 use Rattle.parsing.proofs.calls.parse.Statement.{statement}
 use Rattle.parsing.proofs.calls.parse.Tie as tie
 
-slice-aggregate-begins-with : tie.Need-slice-aggregate-begins-with
-slice-aggregate-begins-with c = search needs
-
-begins-with-requires : tie.Need-begins-with-requires
-begins-with-requires c κs = search needs
-
 start-line-requires : tie.Need-start-line-requires
 start-line-requires c κs = named-long startWord _ (c .before .begins-with .ensures) (c .if1 .taken)
 
@@ -18,12 +12,6 @@ returns : tie.Need-returns
 returns c =
     let is = named-parsed startWord _ (c .before .before .begins-with .ensures) (c .before .if1 .taken) (start-is _) in
     rw (c .start-line .ensures, is)
-
-slice-aggregate-begins-with-2 : tie.Need-slice-aggregate-begins-with-2
-slice-aggregate-begins-with-2 c = search needs
-
-begins-with-requires-2 : tie.Need-begins-with-requires-2
-begins-with-requires-2 c κs = search needs
 
 page-line-requires : tie.Need-page-line-requires
 page-line-requires c κs = named-long markWord _ (c .before .begins-with2 .ensures) (c .if2 .taken)
@@ -33,12 +21,6 @@ returns-2 c =
     let is = named-parsed markWord _ (c .before .before .begins-with2 .ensures) (c .before .if2 .taken) (mark-is _) in
     rw (c .page-line .ensures, is)
 
-slice-aggregate-begins-with-3 : tie.Need-slice-aggregate-begins-with-3
-slice-aggregate-begins-with-3 c = search needs
-
-begins-with-requires-3 : tie.Need-begins-with-requires-3
-begins-with-requires-3 c κs = search needs
-
 page-line-requires-2 : tie.Need-page-line-requires-2
 page-line-requires-2 c κs = named-long dropWord _ (c .before .begins-with3 .ensures) (c .if3 .taken)
 
@@ -46,12 +28,6 @@ returns-3 : tie.Need-returns-3
 returns-3 c =
     let is = named-parsed dropWord _ (c .before .before .begins-with3 .ensures) (c .before .if3 .taken) (drop-is _) in
     rw (c .page-line2 .ensures, is)
-
-slice-aggregate-begins-with-4 : tie.Need-slice-aggregate-begins-with-4
-slice-aggregate-begins-with-4 c = search needs
-
-begins-with-requires-4 : tie.Need-begins-with-requires-4
-begins-with-requires-4 c κs = search needs
 
 page-line-requires-3 : tie.Need-page-line-requires-3
 page-line-requires-3 c κs = named-long touchWord _ (c .before .begins-with4 .ensures) (c .if4 .taken)
@@ -61,12 +37,6 @@ returns-4 c =
     let is = named-parsed touchWord _ (c .before .before .begins-with4 .ensures) (c .before .if4 .taken) (touch-is _) in
     rw (c .page-line3 .ensures, is)
 
-slice-aggregate-begins-with-5 : tie.Need-slice-aggregate-begins-with-5
-slice-aggregate-begins-with-5 c = search needs
-
-begins-with-requires-5 : tie.Need-begins-with-requires-5
-begins-with-requires-5 c κs = search needs
-
 page-line-requires-4 : tie.Need-page-line-requires-4
 page-line-requires-4 c κs = named-long lookWord _ (c .before .begins-with5 .ensures) (c .if5 .taken)
 
@@ -74,12 +44,6 @@ returns-5 : tie.Need-returns-5
 returns-5 c =
     let is = named-parsed lookWord _ (c .before .before .begins-with5 .ensures) (c .before .if5 .taken) (look-is _) in
     rw (c .page-line4 .ensures, is)
-
-slice-aggregate-begins-with-6 : tie.Need-slice-aggregate-begins-with-6
-slice-aggregate-begins-with-6 c = search needs
-
-begins-with-requires-6 : tie.Need-begins-with-requires-6
-begins-with-requires-6 c κs = search needs
 
 page-line-requires-5 : tie.Need-page-line-requires-5
 page-line-requires-5 c κs = named-long releaseWord _ (c .before .begins-with6 .ensures) (c .if6 .taken)
@@ -89,12 +53,6 @@ returns-6 c =
     let is = named-parsed releaseWord _ (c .before .before .begins-with6 .ensures) (c .before .if6 .taken) (release-is _) in
     rw (c .page-line5 .ensures, is)
 
-slice-aggregate-begins-with-7 : tie.Need-slice-aggregate-begins-with-7
-slice-aggregate-begins-with-7 c = search needs
-
-begins-with-requires-7 : tie.Need-begins-with-requires-7
-begins-with-requires-7 c κs = search needs
-
 free-line-requires : tie.Need-free-line-requires
 free-line-requires c κs = named-long freeWord _ (c .before .begins-with7 .ensures) (c .if7 .taken)
 
@@ -102,12 +60,6 @@ returns-7 : tie.Need-returns-7
 returns-7 c =
     let is = named-parsed freeWord _ (c .before .before .begins-with7 .ensures) (c .before .if7 .taken) (free-is _) in
     rw (c .free-line .ensures, is)
-
-slice-aggregate-begins-with-8 : tie.Need-slice-aggregate-begins-with-8
-slice-aggregate-begins-with-8 c = search needs
-
-begins-with-requires-8 : tie.Need-begins-with-requires-8
-begins-with-requires-8 c κs = search needs
 
 translate-line-requires : tie.Need-translate-line-requires
 translate-line-requires c κs = named-long translateWord _ (c .before .begins-with8 .ensures) (c .if8 .taken)
@@ -117,12 +69,6 @@ returns-8 c =
     let is = named-parsed translateWord _ (c .before .before .begins-with8 .ensures) (c .before .if8 .taken) (translate-is _) in
     rw (c .translate-line .ensures, is)
 
-slice-aggregate-begins-with-9 : tie.Need-slice-aggregate-begins-with-9
-slice-aggregate-begins-with-9 c = search needs
-
-begins-with-requires-9 : tie.Need-begins-with-requires-9
-begins-with-requires-9 c κs = search needs
-
 read-line-requires : tie.Need-read-line-requires
 read-line-requires c κs = named-long readWord _ (c .before .begins-with9 .ensures) (c .if9 .taken)
 
@@ -131,12 +77,6 @@ returns-9 c =
     let is = named-parsed readWord _ (c .before .before .begins-with9 .ensures) (c .before .if9 .taken) (read-is _) in
     rw (c .read-line .ensures, is)
 
-slice-aggregate-begins-with-10 : tie.Need-slice-aggregate-begins-with-10
-slice-aggregate-begins-with-10 c = search needs
-
-begins-with-requires-10 : tie.Need-begins-with-requires-10
-begins-with-requires-10 c κs = search needs
-
 write-line-requires : tie.Need-write-line-requires
 write-line-requires c κs = named-long writeWord _ (c .before .begins-with10 .ensures) (c .if10 .taken)
 
@@ -144,12 +84,6 @@ returns-10 : tie.Need-returns-10
 returns-10 c =
     let is = named-parsed writeWord _ (c .before .before .begins-with10 .ensures) (c .before .if10 .taken) (write-is _) in
     rw (c .write-line .ensures, is)
-
-slice-aggregate-begins-with-11 : tie.Need-slice-aggregate-begins-with-11
-slice-aggregate-begins-with-11 c = search needs
-
-begins-with-requires-11 : tie.Need-begins-with-requires-11
-begins-with-requires-11 c κs = search needs
 
 list-line-requires : tie.Need-list-line-requires
 list-line-requires c κs = named-long listWord _ (c .before .begins-with11 .ensures) (c .if11 .taken)
@@ -190,48 +124,48 @@ pub parse-spec : {M : Type 1} → statement M
 parse-spec =
     tie.close
     (tie.spec
-    slice-aggregate-begins-with
-    begins-with-requires
+    (λ c. search needs)
+    (λ c κs. search needs)
     start-line-requires
     returns
-    slice-aggregate-begins-with-2
-    begins-with-requires-2
+    (λ c. search needs)
+    (λ c κs. search needs)
     page-line-requires
     returns-2
-    slice-aggregate-begins-with-3
-    begins-with-requires-3
+    (λ c. search needs)
+    (λ c κs. search needs)
     page-line-requires-2
     returns-3
-    slice-aggregate-begins-with-4
-    begins-with-requires-4
+    (λ c. search needs)
+    (λ c κs. search needs)
     page-line-requires-3
     returns-4
-    slice-aggregate-begins-with-5
-    begins-with-requires-5
+    (λ c. search needs)
+    (λ c κs. search needs)
     page-line-requires-4
     returns-5
-    slice-aggregate-begins-with-6
-    begins-with-requires-6
+    (λ c. search needs)
+    (λ c κs. search needs)
     page-line-requires-5
     returns-6
-    slice-aggregate-begins-with-7
-    begins-with-requires-7
+    (λ c. search needs)
+    (λ c κs. search needs)
     free-line-requires
     returns-7
-    slice-aggregate-begins-with-8
-    begins-with-requires-8
+    (λ c. search needs)
+    (λ c κs. search needs)
     translate-line-requires
     returns-8
-    slice-aggregate-begins-with-9
-    begins-with-requires-9
+    (λ c. search needs)
+    (λ c κs. search needs)
     read-line-requires
     returns-9
-    slice-aggregate-begins-with-10
-    begins-with-requires-10
+    (λ c. search needs)
+    (λ c κs. search needs)
     write-line-requires
     returns-10
-    slice-aggregate-begins-with-11
-    begins-with-requires-11
+    (λ c. search needs)
+    (λ c κs. search needs)
     list-line-requires
     returns-11
     returns-12)

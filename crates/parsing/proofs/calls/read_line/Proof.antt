@@ -5,26 +5,11 @@ use Rattle.parsing.proofs.Reading.{end-here, more-here, took, took-none
 use Rattle.parsing.proofs.calls.read_line.Statement.{statement}
 use Rattle.parsing.proofs.calls.read_line.Tie as tie
 
-number-after-blank-requires : tie.Need-number-after-blank-requires
-number-after-blank-requires c κs = search needs
-
-enum-known-i : tie.Need-enum-known-i
-enum-known-i c = search needs
-
-enum-told : tie.Need-enum-told
-enum-told c = search needs
-
 returns : tie.Need-returns
 returns c = rw (took-none _ _ (c .before .before .number-after-blank .ensures) (c .enum-told .given .1))
 
 number-after-blank-requires-2 : tie.Need-number-after-blank-requires-2
 number-after-blank-requires-2 c κs = took _ _ (c .before .before .before .number-after-blank .ensures) (c .before .i .given .1) .0
-
-enum-known-x : tie.Need-enum-known-x
-enum-known-x c = search needs
-
-enum-told-2 : tie.Need-enum-told-2
-enum-told-2 c = search needs
 
 returns-2 : tie.Need-returns-2
 returns-2 c =
@@ -34,12 +19,6 @@ returns-2 c =
 
 number-after-blank-requires-3 : tie.Need-number-after-blank-requires-3
 number-after-blank-requires-3 c κs = took _ _ (c .before .before .before .number-after-blank2 .ensures) (c .before .x .given .1) .0
-
-enum-known-n : tie.Need-enum-known-n
-enum-known-n c = search needs
-
-enum-told-3 : tie.Need-enum-told-3
-enum-told-3 c = search needs
 
 returns-3 : tie.Need-returns-3
 returns-3 c =
@@ -69,12 +48,6 @@ returns-5 c =
     let n = took _ _ (at-n .before .before .before .number-after-blank3 .ensures) (at-n .before .n .given .1) in
     rw (i .1, x .1, n .1, end-here _ _ (c .before .if1 .left), lt-leb _ 256 (c .if2 .taken))
 
-cast-t12 : tie.Need-cast-t12
-cast-t12 c = search needs
-
-cast-t15 : tie.Need-cast-t15
-cast-t15 c = search needs
-
 returns-6 : tie.Need-returns-6
 returns-6 c =
     let at-n = c .before .before in
@@ -89,20 +62,20 @@ pub read-line-spec : {M : Type 1} → statement M
 read-line-spec =
     tie.close
     (tie.spec
-    number-after-blank-requires
-    enum-known-i
-    enum-told
+    (λ c κs. search needs)
+    (λ c. search needs)
+    (λ c. search needs)
     returns
     number-after-blank-requires-2
-    enum-known-x
-    enum-told-2
+    (λ c. search needs)
+    (λ c. search needs)
     returns-2
     number-after-blank-requires-3
-    enum-known-n
-    enum-told-3
+    (λ c. search needs)
+    (λ c. search needs)
     returns-3
     returns-4
     returns-5
-    cast-t12
-    cast-t15
+    (λ c. search needs)
+    (λ c. search needs)
     returns-6)

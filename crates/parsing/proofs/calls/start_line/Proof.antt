@@ -4,26 +4,11 @@ use Rattle.parsing.proofs.Reading.{end-here, more-here, took, took-none
 use Rattle.parsing.proofs.calls.start_line.Statement.{statement}
 use Rattle.parsing.proofs.calls.start_line.Tie as tie
 
-number-after-blank-requires : tie.Need-number-after-blank-requires
-number-after-blank-requires c κs = search needs
-
-enum-known-s : tie.Need-enum-known-s
-enum-known-s c = search needs
-
-enum-told : tie.Need-enum-told
-enum-told c = search needs
-
 returns : tie.Need-returns
 returns c = rw (took-none _ _ (c .before .before .number-after-blank .ensures) (c .enum-told .given .1))
 
 number-after-blank-requires-2 : tie.Need-number-after-blank-requires-2
 number-after-blank-requires-2 c κs = took _ _ (c .before .before .before .number-after-blank .ensures) (c .before .s .given .1) .0
-
-enum-known-n : tie.Need-enum-known-n
-enum-known-n c = search needs
-
-enum-told-2 : tie.Need-enum-told-2
-enum-told-2 c = search needs
 
 returns-2 : tie.Need-returns-2
 returns-2 c =
@@ -33,12 +18,6 @@ returns-2 c =
 
 number-after-blank-requires-3 : tie.Need-number-after-blank-requires-3
 number-after-blank-requires-3 c κs = took _ _ (c .before .before .before .number-after-blank2 .ensures) (c .before .n .given .1) .0
-
-enum-known-f : tie.Need-enum-known-f
-enum-known-f c = search needs
-
-enum-told-3 : tie.Need-enum-told-3
-enum-told-3 c = search needs
 
 returns-3 : tie.Need-returns-3
 returns-3 c =
@@ -50,12 +29,6 @@ returns-3 c =
 
 number-after-blank-requires-4 : tie.Need-number-after-blank-requires-4
 number-after-blank-requires-4 c κs = took _ _ (c .before .before .before .number-after-blank3 .ensures) (c .before .f .given .1) .0
-
-enum-known-p : tie.Need-enum-known-p
-enum-known-p c = search needs
-
-enum-told-4 : tie.Need-enum-told-4
-enum-told-4 c = search needs
 
 returns-4 : tie.Need-returns-4
 returns-4 c =
@@ -95,21 +68,21 @@ pub start-line-spec : {M : Type 1} → statement M
 start-line-spec =
     tie.close
     (tie.spec
-    number-after-blank-requires
-    enum-known-s
-    enum-told
+    (λ c κs. search needs)
+    (λ c. search needs)
+    (λ c. search needs)
     returns
     number-after-blank-requires-2
-    enum-known-n
-    enum-told-2
+    (λ c. search needs)
+    (λ c. search needs)
     returns-2
     number-after-blank-requires-3
-    enum-known-f
-    enum-told-3
+    (λ c. search needs)
+    (λ c. search needs)
     returns-3
     number-after-blank-requires-4
-    enum-known-p
-    enum-told-4
+    (λ c. search needs)
+    (λ c. search needs)
     returns-4
     returns-5
     returns-6)

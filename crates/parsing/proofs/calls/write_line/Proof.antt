@@ -5,26 +5,11 @@ use Rattle.parsing.proofs.Reading.{counted, uncounted, took, took-none}
 use Rattle.parsing.proofs.calls.write_line.Statement.{statement}
 use Rattle.parsing.proofs.calls.write_line.Tie as tie
 
-number-after-blank-requires : tie.Need-number-after-blank-requires
-number-after-blank-requires c κs = search needs
-
-enum-known-i : tie.Need-enum-known-i
-enum-known-i c = search needs
-
-enum-told : tie.Need-enum-told
-enum-told c = search needs
-
 returns : tie.Need-returns
 returns c = rw (took-none _ _ (c .before .before .number-after-blank .ensures) (c .enum-told .given .1))
 
 number-after-blank-requires-2 : tie.Need-number-after-blank-requires-2
 number-after-blank-requires-2 c κs = took _ _ (c .before .before .before .number-after-blank .ensures) (c .before .i .given .1) .0
-
-enum-known-x : tie.Need-enum-known-x
-enum-known-x c = search needs
-
-enum-told-2 : tie.Need-enum-told-2
-enum-told-2 c = search needs
 
 returns-2 : tie.Need-returns-2
 returns-2 c =
@@ -35,12 +20,6 @@ returns-2 c =
 hex-count-requires : tie.Need-hex-count-requires
 hex-count-requires c κs = took _ _ (c .before .before .before .number-after-blank2 .ensures) (c .before .x .given .1) .0
 
-enum-known-n : tie.Need-enum-known-n
-enum-known-n c = search needs
-
-enum-told-3 : tie.Need-enum-told-3
-enum-told-3 c = search needs
-
 returns-3 : tie.Need-returns-3
 returns-3 c =
     let at-x = c .before .before .before in
@@ -48,9 +27,6 @@ returns-3 c =
     let i = took _ _ (at-i .before .before .before .number-after-blank .ensures) (at-i .before .i .given .1) in
     let x = took _ _ (at-x .before .before .before .number-after-blank2 .ensures) (at-x .before .x .given .1) in
     rw (i .1, x .1, uncounted _ _ (sym (c .before .before .hex-count .ensures) ∙ c .enum-told3 .given .1))
-
-cast-t11 : tie.Need-cast-t11
-cast-t11 c = search needs
 
 returns-4 : tie.Need-returns-4
 returns-4 c =
@@ -64,17 +40,17 @@ pub write-line-spec : {M : Type 1} → statement M
 write-line-spec =
     tie.close
     (tie.spec
-    number-after-blank-requires
-    enum-known-i
-    enum-told
+    (λ c κs. search needs)
+    (λ c. search needs)
+    (λ c. search needs)
     returns
     number-after-blank-requires-2
-    enum-known-x
-    enum-told-2
+    (λ c. search needs)
+    (λ c. search needs)
     returns-2
     hex-count-requires
-    enum-known-n
-    enum-told-3
+    (λ c. search needs)
+    (λ c. search needs)
     returns-3
-    cast-t11
+    (λ c. search needs)
     returns-4)

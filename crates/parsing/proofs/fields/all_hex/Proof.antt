@@ -22,9 +22,6 @@ loop-holds c = (omega arith, refl)
 shared-slice-read-is-hex : tie.Need-shared-slice-read-is-hex Inv-loop μ-loop
 shared-slice-read-is-hex c = omega arith
 
-is-hex-requires : tie.Need-is-hex-requires Inv-loop μ-loop
-is-hex-requires c κs = search needs
-
 returns : tie.Need-returns Inv-loop μ-loop
 returns c =
     let l = c .before .before .before .before .loop in
@@ -54,7 +51,7 @@ all-hex-spec =
     μ-loop
     loop-holds
     shared-slice-read-is-hex
-    is-hex-requires
+    (λ c κs. search needs)
     returns
     add-i
     loop-less

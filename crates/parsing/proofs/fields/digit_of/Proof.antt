@@ -9,11 +9,8 @@ use Rattle.parsing.proofs.fields.digit_of.Tie as tie
 sub-result : tie.Need-sub-result
 sub-result c = omega (arith, digit-range (c .args .c) (c .pre))
 
-cast-result : tie.Need-cast-result
-cast-result c = search needs
-
 returns : tie.Need-returns
 returns c = (refl, omega (arith, digit-range (c .args .c) (c .pre)))
 
 pub digit-of-spec : {M : Type 1} → statement M
-digit-of-spec = tie.close (tie.spec sub-result cast-result returns)
+digit-of-spec = tie.close (tie.spec sub-result (λ c. search needs) returns)

@@ -7,19 +7,10 @@ use Rattle.parsing.proofs.Reading.{over, hex-after}
 use Rattle.parsing.proofs.fields.hex_count.Statement.{statement}
 use Rattle.parsing.proofs.fields.hex_count.Tie as tie
 
-sub-rest : tie.Need-sub-rest
-sub-rest c = search needs
-
 returns : tie.Need-returns
 returns c =
     let s = c .before .before .args in
     rw (over (s .line .now) (s .at) (omega arith))
-
-sub-n : tie.Need-sub-n
-sub-n c = search needs
-
-shared-slice-read-if2 : tie.Need-shared-slice-read-if2
-shared-slice-read-if2 c = search needs
 
 returns-2 : tie.Need-returns-2
 returns-2 c =
@@ -59,12 +50,6 @@ returns-5 c =
       ne-eqb _ 0 (c .if5 .taken),
     )
 
-add-all-hex : tie.Need-add-all-hex
-add-all-hex c = search needs
-
-all-hex-requires : tie.Need-all-hex-requires
-all-hex-requires c κs = search needs
-
 returns-6 : tie.Need-returns-6
 returns-6 c =
     let s = c .before .before .before .before .before .before .before .before .before .args in
@@ -93,15 +78,15 @@ pub hex-count-spec : {M : Type 1} → statement M
 hex-count-spec =
     tie.close
     (tie.spec
-    sub-rest
+    (λ c. search needs)
     returns
-    sub-n
-    shared-slice-read-if2
+    (λ c. search needs)
+    (λ c. search needs)
     returns-2
     returns-3
     returns-4
     returns-5
-    add-all-hex
-    all-hex-requires
+    (λ c. search needs)
+    (λ c κs. search needs)
     returns-6
     returns-7)

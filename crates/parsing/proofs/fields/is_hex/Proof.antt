@@ -4,9 +4,6 @@ use borrow.Author.Tests.{le-leb, lt-leb}
 use Rattle.parsing.proofs.fields.is_hex.Statement.{statement}
 use Rattle.parsing.proofs.fields.is_hex.Tie as tie
 
-is-digit-requires : tie.Need-is-digit-requires
-is-digit-requires c κs = search needs
-
 returns : tie.Need-returns
 returns c = rw (← c .before .is-digit .ensures, c .if1 .taken)
 
@@ -17,4 +14,4 @@ returns-3 : tie.Need-returns-3
 returns-3 c = rw (← c .before .before .is-digit .ensures, c .before .if1 .left, lt-leb _ _ (c .if2 .left))
 
 pub is-hex-spec : {M : Type 1} → statement M
-is-hex-spec = tie.close (tie.spec is-digit-requires returns returns-2 returns-3)
+is-hex-spec = tie.close (tie.spec (λ c κs. search needs) returns returns-2 returns-3)

@@ -35,9 +35,6 @@ add-first c = omega arith
 shared-slice-read-first : tie.Need-shared-slice-read-first Inv-loop μ-loop
 shared-slice-read-first c = omega arith
 
-is-digit-requires : tie.Need-is-digit-requires Inv-loop μ-loop
-is-digit-requires c κs = search needs
-
 returns-3 : tie.Need-returns-3 Inv-loop μ-loop
 returns-3 c =
     let s = c .before .before .before .before .before .before .before .args in
@@ -56,9 +53,6 @@ loop-holds c =
 
 shared-slice-read-c : tie.Need-shared-slice-read-c Inv-loop μ-loop
 shared-slice-read-c c = omega arith
-
-is-digit-requires-2 : tie.Need-is-digit-requires-2 Inv-loop μ-loop
-is-digit-requires-2 c κs = search needs
 
 returns-4 : tie.Need-returns-4 Inv-loop μ-loop
 returns-4 c =
@@ -108,13 +102,13 @@ number-after-blank-spec =
     returns-2
     add-first
     shared-slice-read-first
-    is-digit-requires
+    (λ c κs. search needs)
     returns-3
     digit-of-requires
     add-i
     loop-holds
     shared-slice-read-c
-    is-digit-requires-2
+    (λ c κs. search needs)
     returns-4
     returns-5
     mul-value

@@ -37,9 +37,6 @@ add-b c = omega (arith, reads (c .before .before .loop .inv) (c .before .loop-te
 shared-slice-read-b : tie.Need-shared-slice-read-b Inv-loop μ-loop
 shared-slice-read-b c = reads (c .before .before .before .loop .inv) (c .before .before .loop-test .taken)
 
-is-hex-requires : tie.Need-is-hex-requires Inv-loop μ-loop
-is-hex-requires c κs = search needs
-
 same-length : tie.Need-same-length Inv-loop μ-loop
 same-length c = c .before .before .before .before .before .loop .inv .size
 
@@ -47,9 +44,6 @@ returns-3 : tie.Need-returns-3 Inv-loop μ-loop
 returns-3 c =
     let t = c .before .before .before .before in
     first-wrong (t .before .loop .inv) (t .loop-test .taken) (failed (c .before .is-hex .ensures) (c .if3 .taken))
-
-is-hex-requires-2 : tie.Need-is-hex-requires-2 Inv-loop μ-loop
-is-hex-requires-2 c κs = search needs
 
 same-length-2 : tie.Need-same-length-2 Inv-loop μ-loop
 same-length-2 c = c .before .before .before .before .before .before .before .loop .inv .size
@@ -101,10 +95,10 @@ unhex-spec =
     shared-slice-read-a
     add-b
     shared-slice-read-b
-    is-hex-requires
+    (λ c κs. search needs)
     same-length
     returns-3
-    is-hex-requires-2
+    (λ c κs. search needs)
     same-length-2
     returns-4
     byte-of-requires

@@ -13,12 +13,6 @@ Inv-loop input₀ from n stop i₀ input i = (from ≤ i) × (length input ≡ l
 abbrev μ-loop : tie.MeasureT-loop
 μ-loop input₀ from n stop i₀ input i = stop - i
 
-returns : tie.Need-returns Inv-loop μ-loop
-returns c = search needs
-
-returns-2 : tie.Need-returns-2 Inv-loop μ-loop
-returns-2 c = search needs
-
 least-requires : tie.Need-least-requires Inv-loop μ-loop
 least-requires c κs = omega arith
 
@@ -46,20 +40,14 @@ loop-again c = (omega arith, simp length-set (c .before .before .loop .inv .1))
 sub-result : tie.Need-sub-result Inv-loop μ-loop
 sub-result c = omega arith
 
-same-length : tie.Need-same-length Inv-loop μ-loop
-same-length c = search needs
-
-returns-3 : tie.Need-returns-3 Inv-loop μ-loop
-returns-3 c = search needs
-
 pub keep-spec : {M : Type 1} → statement M
 keep-spec =
     tie.close
     (tie.spec
     Inv-loop
     μ-loop
-    returns
-    returns-2
+    (λ c. search needs)
+    (λ c. search needs)
     least-requires
     loop-holds
     slice-read-input
@@ -69,5 +57,5 @@ keep-spec =
     loop-less
     loop-again
     sub-result
-    same-length
-    returns-3)
+    (λ c. search needs)
+    (λ c. search needs))

@@ -7,24 +7,6 @@ use borrow.Author.Needs.{needs}
 use Rattle.playing.proofs.decoding.decode.Statement.{statement}
 use Rattle.playing.proofs.decoding.decode.Tie as tie
 
-start-code-requires : tie.Need-start-code-requires
-start-code-requires c κs = search needs
-
-no-parts-requires : tie.Need-no-parts-requires
-no-parts-requires c κs = search needs
-
-translate-code-requires : tie.Need-translate-code-requires
-translate-code-requires c κs = search needs
-
-list-code-requires : tie.Need-list-code-requires
-list-code-requires c κs = search needs
-
-page-code-requires : tie.Need-page-code-requires
-page-code-requires c κs = search needs
-
-span-code-requires : tie.Need-span-code-requires
-span-code-requires c κs = search needs
-
 returns : tie.Need-returns
 unfolding decoded
 returns c = rw (c .before .match .keys1) (c .start-code .ensures)
@@ -70,12 +52,12 @@ pub decode-spec : {M : Type 1} → statement M
 decode-spec =
     tie.close
     (tie.spec
-    start-code-requires
-    no-parts-requires
-    translate-code-requires
-    list-code-requires
-    page-code-requires
-    span-code-requires
+    (λ c κs. search needs)
+    (λ c κs. search needs)
+    (λ c κs. search needs)
+    (λ c κs. search needs)
+    (λ c κs. search needs)
+    (λ c κs. search needs)
     returns
     returns-2
     returns-3

@@ -6,14 +6,8 @@ use borrow.Author.Needs.{needs}
 use Rattle.playing.proofs.decoding.list_code.Statement.{statement}
 use Rattle.playing.proofs.decoding.list_code.Tie as tie
 
-is-small-requires : tie.Need-is-small-requires
-is-small-requires c κs = search needs
-
 returns : tie.Need-returns
 returns c = rw (failed (c .before .is-small .ensures) (c .if1 .taken))
-
-is-inside-requires : tie.Need-is-inside-requires
-is-inside-requires c κs = search needs
 
 returns-2 : tie.Need-returns-2
 returns-2 c = rw (held (c .before .before .before .is-small .ensures) (c .before .before .if1 .left), failed (c .before .is-inside .ensures) (c .if2 .taken))
@@ -32,4 +26,4 @@ returns-3 c = rw (held (c .before .before .before .is-small .ensures) (c .before
 pub list-code-spec : {M : Type 1} → statement M
 list-code-spec =
     tie.close
-    (tie.spec is-small-requires returns is-inside-requires returns-2 cast-t7 add-t9 returns-3)
+    (tie.spec (λ c κs. search needs) returns (λ c κs. search needs) returns-2 cast-t7 add-t9 returns-3)

@@ -5,14 +5,8 @@ use borrow.Author.Needs.{needs}
 use Rattle.playing.proofs.decoding.page_code.Statement.{statement}
 use Rattle.playing.proofs.decoding.page_code.Tie as tie
 
-is-small-requires : tie.Need-is-small-requires
-is-small-requires c κs = search needs
-
 returns : tie.Need-returns
 returns c = rw (failed (c .before .is-small .ensures) (c .if1 .taken))
-
-is-small-requires-2 : tie.Need-is-small-requires-2
-is-small-requires-2 c κs = search needs
 
 returns-2 : tie.Need-returns-2
 returns-2 c = rw (held (c .before .before .before .is-small .ensures) (c .before .before .if1 .left), failed (c .before .is-small2 .ensures) (c .if2 .taken))
@@ -23,12 +17,6 @@ cast-page-request c = small (c .before .before .before .is-small .ensures) (c .b
 cast-page-request-2 : tie.Need-cast-page-request-2
 cast-page-request-2 c = small (c .before .is-small2 .ensures) (c .if2 .left)
 
-page-request-requires : tie.Need-page-request-requires
-page-request-requires c κs = search needs
-
-no-parts-requires : tie.Need-no-parts-requires
-no-parts-requires c κs = search needs
-
 returns-3 : tie.Need-returns-3
 returns-3 c =
     let here = c .before .before in
@@ -38,12 +26,12 @@ pub page-code-spec : {M : Type 1} → statement M
 page-code-spec =
     tie.close
     (tie.spec
-    is-small-requires
+    (λ c κs. search needs)
     returns
-    is-small-requires-2
+    (λ c κs. search needs)
     returns-2
     cast-page-request
     cast-page-request-2
-    page-request-requires
-    no-parts-requires
+    (λ c κs. search needs)
+    (λ c κs. search needs)
     returns-3)

@@ -6,23 +6,14 @@ use borrow.Author.Needs.{needs}
 use Rattle.playing.proofs.decoding.span_code.Statement.{statement}
 use Rattle.playing.proofs.decoding.span_code.Tie as tie
 
-is-small-requires : tie.Need-is-small-requires
-is-small-requires c κs = search needs
-
 returns : tie.Need-returns
 returns c = rw (failed (c .before .is-small .ensures) (c .if1 .taken))
-
-is-inside-requires : tie.Need-is-inside-requires
-is-inside-requires c κs = search needs
 
 returns-2 : tie.Need-returns-2
 returns-2 c = rw (held (c .before .before .before .is-small .ensures) (c .before .before .if1 .left), failed (c .before .is-inside .ensures) (c .if2 .taken))
 
 cast-span-request : tie.Need-cast-span-request
 cast-span-request c = small (c .before .before .before .is-small .ensures) (c .before .before .if1 .left)
-
-span-request-requires : tie.Need-span-request-requires
-span-request-requires c κs = search needs
 
 add-t11 : tie.Need-add-t11
 add-t11 c =
@@ -36,11 +27,11 @@ pub span-code-spec : {M : Type 1} → statement M
 span-code-spec =
     tie.close
     (tie.spec
-    is-small-requires
+    (λ c κs. search needs)
     returns
-    is-inside-requires
+    (λ c κs. search needs)
     returns-2
     cast-span-request
-    span-request-requires
+    (λ c κs. search needs)
     add-t11
     returns-3)

@@ -5,29 +5,17 @@ use borrow.Author.Needs.{needs}
 use Rattle.playing.proofs.decoding.start_code.Statement.{statement}
 use Rattle.playing.proofs.decoding.start_code.Tie as tie
 
-is-small-requires : tie.Need-is-small-requires
-is-small-requires c κs = search needs
-
 returns : tie.Need-returns
 returns c = rw (failed (c .before .is-small .ensures) (c .if1 .taken))
 
-is-small-requires-2 : tie.Need-is-small-requires-2
-is-small-requires-2 c κs = search needs
-
 returns-2 : tie.Need-returns-2
 returns-2 c = rw (held (c .before .before .before .is-small .ensures) (c .before .before .if1 .left), failed (c .before .is-small2 .ensures) (c .if2 .taken))
-
-is-small-requires-3 : tie.Need-is-small-requires-3
-is-small-requires-3 c κs = search needs
 
 returns-3 : tie.Need-returns-3
 returns-3 c =
     let second = c .before .before in
     let first = second .before .before in
     rw (held (first .before .is-small .ensures) (first .if1 .left), held (second .before .is-small2 .ensures) (second .if2 .left), failed (c .before .is-small3 .ensures) (c .if3 .taken))
-
-is-small-requires-4 : tie.Need-is-small-requires-4
-is-small-requires-4 c κs = search needs
 
 returns-4 : tie.Need-returns-4
 returns-4 c =
@@ -48,9 +36,6 @@ cast-t9 c = small (c .before .before .before .is-small3 .ensures) (c .before .be
 cast-t10 : tie.Need-cast-t10
 cast-t10 c = small (c .before .is-small4 .ensures) (c .if4 .left)
 
-no-parts-requires : tie.Need-no-parts-requires
-no-parts-requires c κs = search needs
-
 returns-5 : tie.Need-returns-5
 returns-5 c =
     let fourth = c .before in
@@ -63,17 +48,17 @@ pub start-code-spec : {M : Type 1} → statement M
 start-code-spec =
     tie.close
     (tie.spec
-    is-small-requires
+    (λ c κs. search needs)
     returns
-    is-small-requires-2
+    (λ c κs. search needs)
     returns-2
-    is-small-requires-3
+    (λ c κs. search needs)
     returns-3
-    is-small-requires-4
+    (λ c κs. search needs)
     returns-4
     cast-t7
     cast-t8
     cast-t9
     cast-t10
-    no-parts-requires
+    (λ c κs. search needs)
     returns-5)

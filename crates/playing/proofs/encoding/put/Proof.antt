@@ -15,22 +15,10 @@ all-set (x ∷ []) a b c e = absurd (omega arith)
 all-set (x ∷ y ∷ []) a b c e = absurd (omega arith)
 all-set (x ∷ y ∷ z ∷ w ∷ l) a b c e = absurd (omega arith)
 
-slice-write-reply : tie.Need-slice-write-reply
-slice-write-reply c = search needs
-
-slice-write-reply-2 : tie.Need-slice-write-reply-2
-slice-write-reply-2 c = search needs
-
-slice-write-reply-3 : tie.Need-slice-write-reply-3
-slice-write-reply-3 c = search needs
-
-same-length : tie.Need-same-length
-same-length c = search needs
-
 returns : tie.Need-returns
 returns c = all-set (c .args .reply .now) _ _ _ (c .pre)
 
 pub put-spec : {M : Type 1} → statement M
 put-spec =
     tie.close
-    (tie.spec slice-write-reply slice-write-reply-2 slice-write-reply-3 same-length returns)
+    (tie.spec (λ c. search needs) (λ c. search needs) (λ c. search needs) (λ c. search needs) returns)

@@ -3,12 +3,6 @@ use borrow.Author.Needs.{needs}
 use Rattle.serving.proofs.told.of_copied.Statement.{statement}
 use Rattle.serving.proofs.told.of_copied.Tie as tie
 
-enum-told : tie.Need-enum-told
-enum-told c = search needs
-
-enum-known-a : tie.Need-enum-known-a
-enum-known-a c = search needs
-
 returns : tie.Need-returns
 returns c = λ buffer records. rw ((c .enum-told) .given .1)
 
@@ -16,4 +10,4 @@ returns-2 : tie.Need-returns-2
 returns-2 c = λ buffer records. rw ((c .before .a) .given .1)
 
 pub of-copied-spec : {M : Type 1} → statement M
-of-copied-spec = tie.close (tie.spec enum-told enum-known-a returns returns-2)
+of-copied-spec = tie.close (tie.spec (λ c. search needs) (λ c. search needs) returns returns-2)
