@@ -1,5 +1,6 @@
 -- The three demands, with the user's words beside each clause, and nothing else. `Did` (crate promise) is what the contract of every call states.
 use mathlib.Core.Path.{_≡_}
+use mathlib.Core.Bool.{true}
 use mathlib.Core.List.{List, [], _∷_, _++_, map}
 use mathlib.Core.Option.{some}
 use Prim.Native.Nat.{ℕ, _+_, _-_, _*_, _≤_, _<_}
@@ -10,12 +11,13 @@ use Rattle.machine.specs.declared.Copied.{Copied}
 use Rattle.machine.specs.declared.Copied.the-variants as copied-is
 use Rattle.machine.specs.declared.Listed.{Listed}
 use Rattle.machine.specs.declared.Listed.the-variants as listed-is
-use Rattle.machine.specs.Machine.{Sizes, State, Lent, Call, start, release, free, translate, read, write, list, Answer, done, at, bytes, frames, regions, refused, asked, recordsOf, ramAt, begun, answers, after, afterAll}
-use Rattle.machine.specs.Claims.{residentPages, timesFree, timesHeld, Address, Same, Spared}
+use Rattle.machine.specs.Machine.{State, Lent, Call, release, free, translate, read, write, list, asked, ramAt, withRam, recordsOf}
+use Rattle.machine.specs.Machine.{Answer, done, at, bytes, frames, regions, answers, after, afterAll}
+use Rattle.machine.specs.Claims.{residentPages, timesFree, timesHeld, isRefused, Address, Same, Spared}
 use Rattle.memory.specs.Memory.{Memory, sizesOf, lengths}
 use Rattle.promise.specs.Did.{Exactly, Tables, Did}
 use Rattle.promise.specs.Filled.{ReadDid, ListDid}
-use Rattle.demands.specs.History.{Event, calls, Step, Run}
+use Rattle.demands.specs.History.{Event, calls, Beginning, Run}
 
 -- ---- Demand 1. "Any sizes, numbers and buffers: every call ends, does nothing undefined, asks nothing of its caller; a refusal has
 -- document 01's number and changes nothing." That every call ends and does nothing undefined is what it is for a function to be proved,
@@ -23,7 +25,7 @@ use Rattle.demands.specs.History.{Event, calls, Step, Run}
 
 pub record Demand1 (c : Lent → Call) (k : Memory) (a : Answer) (k′ : Memory) : Type 0 where
   pub numbers : Exactly (asked (sizesOf (k .head)) (c (lengths k))) (c (lengths k)) a
-  pub refusals : (n w : ℕ) → a ≡ refused n w → k′ ≡ k
+  pub refusals : isRefused a ≡ true → k′ ≡ k
 
 -- "Every refusal leaves .. the read buffer and the record slice as they stood"
 abbrev pub Demand1Read : Type 0
@@ -32,28 +34,27 @@ Demand1Read = (i x : ℕ) (k : Memory) (r : Copied) (buffer buffer′ : List ℕ
 abbrev pub Demand1List : Type 0
 Demand1List = (i : ℕ) (k : Memory) (r : Listed) (slice slice′ : List ℕ) → ListDid i k r slice slice′ → (n : ℕ) → r ≡ listed-is.Refused n → slice′ ≡ slice
 
--- ---- an accepted start on memory that held anything, and every sequence of calls after it
+-- ---- an accepted beginning on memory that held anything, and every sequence of calls after it; what begins a state today is a start
 
 -- the machine "begins with the accepted start and the RAM as it then stands"
-abbrev pub machineAt : Sizes → Memory → List Event → State
-machineAt z k es = afterAll (begun z (k .ram)) (calls es)
+abbrev pub machineAt : State → Memory → List Event → State
+machineAt m k es = afterAll (withRam m (k .ram)) (calls es)
 
 -- "The memory is long enough for the accepted start's sizes" (Step.room); nothing else is known of k
-pub record Sequence (z : Sizes) (k : Memory) (es : List Event) (k′ : Memory) : Type 0 where
-  pub lent : Lent
+pub record Sequence (m : State) (k : Memory) (es : List Event) (k′ : Memory) : Type 0 where
   pub started : Memory
-  pub accepted : Step k (record { call = start z; lent = lent; answer = done }) started
+  pub beginning : Beginning m k started
   pub run : Run started es k′
 
 -- ---- Demand 2. "From an accepted start, on memory only the pager changes, every answer is the plain machine's, whatever the five unprepared tables held."
 
 abbrev pub Demand2 : Type 0
-Demand2 = (z : Sizes) (k k′ : Memory) (es : List Event) → Sequence z k es k′ → map (λ e. e .answer) es ≡ answers (begun z (k .ram)) (calls es)
+Demand2 = (m : State) (k k′ : Memory) (es : List Event) → Sequence m k es k′ → map (λ e. e .answer) es ≡ answers (withRam m (k .ram)) (calls es)
 
 -- ---- Demand 3. "One claim over every sequence of calls"
 
 -- a byte stored by an accepted write, and spared by every call after it
-pub record StoredAt (z : Sizes) (k : Memory) (es : List Event) (i x v : ℕ) : Type 0 where
+pub record StoredAt (m : State) (k : Memory) (es : List Event) (i x v : ℕ) : Type 0 where
   pub before : List Event
   pub later : List Event
   pub from : ℕ
@@ -63,10 +64,10 @@ pub record StoredAt (z : Sizes) (k : Memory) (es : List Event) (i x v : ℕ) : T
   pub low : from ≤ x
   pub high : x < from + length values
   pub value-is : getD values (x - from) 0 ≡ v
-  pub spared : Spared (after (machineAt z k before) (write i from values lent)) i x (calls later)
+  pub spared : Spared (after (machineAt m k before) (write i from values lent)) i x (calls later)
 
 -- translate, free, read, list and release are "the pager's own, called next with all of that memory as the sequence left it"
-pub record Demand3 (z : Sizes) (k : Memory) (es : List Event) (k′ : Memory) (m : State) : Type 0 where
+pub record Demand3 (begun : State) (k : Memory) (es : List Event) (k′ : Memory) (m : State) : Type 0 where
   -- "translate answers each resident address with the machine's place, frame x P + offset"
   pub translated : (i x p : ℕ) → Address (m .sizes) i x → ramAt m i x ≡ some p → (a : Answer) (k″ : Memory) → Did (translate i x) k′ a k″ → a ≡ at p
   -- 1. "no two resident addresses share a byte"
@@ -81,11 +82,11 @@ pub record Demand3 (z : Sizes) (k : Memory) (es : List Event) (k′ : Memory) (m
       × (sumFrom (λ i. sum (λ r. r .resident) (given i)) 0 (m .sizes .spaces) ≡ residentPages m)
   -- 4. "a stored byte stays until stored again or released": "a read of that one byte is accepted and gives it, .. every accepted read over
   -- the address has it at that place, and .. the RAM holds it where translate points"
-  pub one-read : (i x v : ℕ) → StoredAt z k es i x v → (a : Answer) (k″ : Memory) → Did (read i x 1) k′ a k″ → a ≡ bytes (v ∷ [])
-  pub every-read : (i x v : ℕ) → StoredAt z k es i x v → (y n : ℕ) (vs : List ℕ) (k″ : Memory) → Did (read i y n) k′ (bytes vs) k″ → y ≤ x → x < y + n → getD vs (x - y) 0 ≡ v
-  pub in-ram : (i x v : ℕ) → StoredAt z k es i x v → (a : Answer) (k″ : Memory) → Did (translate i x) k′ a k″ → (p : ℕ) × (a ≡ at p) × (getD (k′ .ram) p 0 ≡ v)
+  pub one-read : (i x v : ℕ) → StoredAt begun k es i x v → (a : Answer) (k″ : Memory) → Did (read i x 1) k′ a k″ → a ≡ bytes (v ∷ [])
+  pub every-read : (i x v : ℕ) → StoredAt begun k es i x v → (y n : ℕ) (vs : List ℕ) (k″ : Memory) → Did (read i y n) k′ (bytes vs) k″ → y ≤ x → x < y + n → getD vs (x - y) 0 ≡ v
+  pub in-ram : (i x v : ℕ) → StoredAt begun k es i x v → (a : Answer) (k″ : Memory) → Did (translate i x) k′ a k″ → (p : ℕ) × (a ≡ at p) × (getD (k′ .ram) p 0 ≡ v)
   -- 5. "a release then changes at most two table words, no index word and no RAM"
   pub constant : (i b : ℕ) (a : Answer) (k″ : Memory) → Did (release i b) k′ a k″ → Tables (sizesOf (k′ .head)) 0 1 0 0 0 0 1 k′ k″
 
 abbrev pub Demand3For : Type 0
-Demand3For = (z : Sizes) (k k′ : Memory) (es : List Event) → Sequence z k es k′ → Demand3 z k es k′ (machineAt z k es)
+Demand3For = (m : State) (k k′ : Memory) (es : List Event) → Sequence m k es k′ → Demand3 m k es k′ (machineAt m k es)

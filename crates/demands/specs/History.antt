@@ -2,9 +2,10 @@
 use mathlib.Core.Path.{_≡_}
 use mathlib.Core.Bool.{Bool, true, false}
 use mathlib.Core.List.{List, [], _∷_, _++_, map}
+use mathlib.Core.Option.{some}
 use Prim.Native.Nat.{ℕ, _≤_}
 use lib.ListN.{length, take, drop}
-use Rattle.machine.specs.Machine.{State, Lent, Call, Uses, uses, Answer, done, answers, afterAll}
+use Rattle.machine.specs.Machine.{State, Lent, Call, Uses, uses, Lending, lendsNone, lends, facts, Answer, done}
 use Rattle.memory.specs.Memory.{Memory, memory, lengths}
 use Rattle.promise.specs.Did.{Room, Did}
 
@@ -47,25 +48,19 @@ pub record Event : Type 0 where
 abbrev pub played : Event → Call
 played e = e .call (e .lent)
 
--- the lengths that a call carries are those lent to it; free is lent nothing
+-- the lengths that a call carries are those lent to it, if it is lent any
+abbrev pub CarriesBy : Lending → Lent → Type 0
+CarriesBy lendsNone n = Unit {0}
+CarriesBy (lends u l) n = l ≡ n
+
 abbrev pub Carries : Call → Lent → Type 0
-Carries (Call.start z l) n = l ≡ n
-Carries (Call.mark i b l) n = l ≡ n
-Carries (Call.drop i b l) n = l ≡ n
-Carries (Call.touch i b l) n = l ≡ n
-Carries (Call.look i b l) n = l ≡ n
-Carries (Call.release i b l) n = l ≡ n
-Carries Call.free n = Unit {0}
-Carries (Call.translate i x l) n = l ≡ n
-Carries (Call.read i x m l) n = l ≡ n
-Carries (Call.write i x vs l) n = l ≡ n
-Carries (Call.list i room l) n = l ≡ n
+Carries c n = CarriesBy (facts c .lending) n
 
 -- one call: the function's own promise on the part that it was lent
 pub record Step (k : Memory) (e : Event) (k′ : Memory) : Type 0 where
   pub parts : Parts (uses (played e)) (e .lent) (lengths k)
   pub carries : Carries (played e) (e .lent)
-  -- an accepted start finds memory that is long enough for its sizes
+  -- an accepted beginning finds memory that is long enough for its sizes
   pub room : e .answer ≡ done → Room (played e) k
   pub part : Memory
   pub did : Did (e .call) (front (e .lent) k) (e .answer) part
@@ -74,6 +69,13 @@ pub record Step (k : Memory) (e : Event) (k′ : Memory) : Type 0 where
 pub data Run : Memory → List Event → Memory → Type 0 where
   none : {k : Memory} → Run k [] k
   next : {k k₁ k₂ : Memory} {e : Event} {es : List Event} → Step k e k₁ → Run k₁ es k₂ → Run k (e ∷ es) k₂
+
+-- a call that was accepted and begins the state m, on memory that held anything
+pub record Beginning (m : State) (k : Memory) (k′ : Memory) : Type 0 where
+  pub first : Event
+  pub begins : facts (played first) .begins ≡ some m
+  pub accepted : first .answer ≡ done
+  pub step : Step k first k′
 
 -- the same calls, with the same lengths
 abbrev pub calls : List Event → List Call

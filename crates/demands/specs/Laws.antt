@@ -1,6 +1,5 @@
 -- The proofs of the demands, one idea a file.
 pub mod Parts
-pub mod Unseen
 pub mod Cut
 pub mod Agree
 pub mod Lent

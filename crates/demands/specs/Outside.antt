@@ -3,14 +3,14 @@
 use mathlib.Core.Path.{_≡_}
 use mathlib.Core.List.{List, [], _∷_, map}
 use Prim.Native.Nat.{ℕ}
-use lib.ListN.{length, replicate}
-use Rattle.machine.specs.Machine.{Sizes, State, Lent, start, translate, withRam, Answer, done, old, new, resident, absent, pages, frames, at, bytes, regions, refused, begun, answer, after, answers, afterAll}
-use Rattle.machine.specs.Claims.{Same}
+use lib.ListN.{length}
+use Rattle.machine.specs.Machine.{State, translate, withRam, Answer, at, answer, after, answers, afterAll}
+use Rattle.machine.specs.Claims.{blind, Same}
 use Rattle.memory.specs.Memory.{Memory}
 use Rattle.promise.specs.Holds.{Holds}
 use Rattle.promise.specs.Did.{Did}
 use Rattle.laws.specs.Writing.{withBytes}
-use Rattle.demands.specs.History.{Event, played, calls, Step}
+use Rattle.demands.specs.History.{Event, played, calls, Step, Beginning}
 
 -- a call; or a write from outside, after which the RAM holds these bytes
 pub data Turn : Type 0 where
@@ -22,11 +22,10 @@ pub data Course : Memory → List Turn → Memory → Type 0 where
   call : {k k₁ k₂ : Memory} {e : Event} {ts : List Turn} → Step k e k₁ → Course k₁ ts k₂ → Course k (called e ∷ ts) k₂
   fill : {k k₂ : Memory} {ts : List Turn} (ram : List ℕ) → length ram ≡ length (k .ram) → Course (withBytes k ram) ts k₂ → Course k (filled ram ∷ ts) k₂
 
--- an accepted start on memory that held anything, then calls and writes from outside in any order
-pub record FilledSequence (z : Sizes) (k : Memory) (ts : List Turn) (k′ : Memory) : Type 0 where
-  pub lent : Lent
+-- an accepted beginning on memory that held anything, then calls and writes from outside in any order
+pub record FilledSequence (m : State) (k : Memory) (ts : List Turn) (k′ : Memory) : Type 0 where
   pub started : Memory
-  pub accepted : Step k (record { call = start z; lent = lent; answer = done }) started
+  pub beginning : Beginning m k started
   pub course : Course started ts k′
 
 -- the calls alone
@@ -46,20 +45,6 @@ afterIn m [] = m
 afterIn m (called e ∷ ts) = afterIn (after m (played e)) ts
 afterIn m (filled ram ∷ ts) = afterIn (withRam m ram) ts
 
--- an answer but for the bytes that a read brings
-abbrev pub blind : Answer → Answer
-blind done = done
-blind (old f) = old f
-blind (new f w) = new f w
-blind (resident f) = resident f
-blind (absent w) = absent w
-blind (pages n) = pages n
-blind (frames n) = frames n
-blind (at p) = at p
-blind (bytes vs) = bytes (replicate (length vs) 0)
-blind (regions rs) = regions rs
-blind (refused n w) = refused n w
-
 pub record Outside (m : State) (ts : List Turn) (k′ : Memory) : Type 0 where
   -- every answer is that of the plain machine whose RAM the same bytes reach; a read brings what stands in RAM
   pub answers-are : map (λ e. e .answer) (made ts) ≡ answersIn m ts
@@ -71,4 +56,4 @@ pub record Outside (m : State) (ts : List Turn) (k′ : Memory) : Type 0 where
   pub apart : (i x j y p : ℕ) (a b : Memory) → Did (translate i x) k′ (at p) a → Did (translate j y) k′ (at p) b → Same i x j y
 
 abbrev pub OutsideFor : Type 0
-OutsideFor = (z : Sizes) (k k′ : Memory) (ts : List Turn) → FilledSequence z k ts k′ → Outside (begun z (k .ram)) ts k′
+OutsideFor = (m : State) (k k′ : Memory) (ts : List Turn) → FilledSequence m k ts k′ → Outside (withRam m (k .ram)) ts k′

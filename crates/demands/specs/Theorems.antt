@@ -3,14 +3,15 @@ use mathlib.Core.Path.{refl, sym, ap, _∙_}
 use mathlib.Core.List.{List}
 use Prim.Native.Nat.{ℕ}
 use lib.ListN.{length, getD}
-use Rattle.machine.specs.Machine.{State, Lent, Call, translate, Answer, at, withRam, recordsOf, begun, afterAll}
+use Rattle.machine.specs.Machine.{State, Lent, Call, translate, Answer, at, withRam, recordsOf, afterAll}
 use Rattle.machine.specs.Claims.{Same}
 use Rattle.machine.specs.Laws.Holders.{one-holder, pool-and-resident, same-byte}
 use Rattle.machine.specs.Laws.Records.{listed-pages}
 use Rattle.machine.specs.Laws.Bytes.{read-there}
 use Rattle.memory.specs.Memory.{Memory, lengths}
 use Rattle.promise.specs.Holds.{Holds}
-use Rattle.promise.specs.Did.{still, Did}
+use Rattle.promise.specs.Did.{Did}
+use Rattle.laws.specs.Refusals.{refused-still}
 use Rattle.demands.specs.History.{calls}
 use Rattle.demands.specs.Demands.{Demand1, Demand1Read, Demand1List, machineAt, Demand2, Demand3For}
 use Rattle.demands.specs.Laws.Run.{begins-holding, sequence-follows}
@@ -20,7 +21,7 @@ use Rattle.demands.specs.Laws.Filled.{course-follows}
 use Rattle.demands.specs.Outside.{made, afterIn, OutsideFor}
 
 pub demand-1 : (c : Lent → Call) (k : Memory) (a : Answer) (k′ : Memory) → Did c k a k′ → Demand1 c k a k′
-demand-1 c k a k′ d = record { numbers = d .asks; refusals = λ n w e. d .stays (ap still e) }
+demand-1 c k a k′ d = record { numbers = d .asks; refusals = λ e. d .stays (refused-still a e) }
 
 pub demand-1-read : Demand1Read
 demand-1-read i x k r buffer buffer′ d = d .kept
@@ -29,7 +30,7 @@ pub demand-1-list : Demand1List
 demand-1-list i k r slice slice′ d = d .kept
 
 pub demand-2 : Demand2
-demand-2 z k k′ es q = sequence-follows z k k′ es q .answers-are
+demand-2 m k k′ es q = sequence-follows m k k′ es q .answers-are
 
 -- no two resident addresses share a byte
 addresses-apart : (m : State) (k : Memory) → Holds m k → (i x j y p : ℕ) (a b : Memory) → Did (translate i x) k (at p) a → Did (translate j y) k (at p) b → Same i x j y
@@ -39,9 +40,9 @@ addresses-apart m k H i x j y p a b d e =
     same-byte m (H .sound) i x j y p (r .here) (t .here) (r .is-at) (t .is-at)
 
 pub demand-3 : Demand3For
-demand-3 z k k′ es q =
-    let m = machineAt z k es in
-    let H = sequence-follows z k k′ es q .holds in
+demand-3 m₀ k k′ es q =
+    let m = machineAt m₀ k es in
+    let H = sequence-follows m₀ k k′ es q .holds in
     let s = H .sound in
     record {
       translated = translate-next m k′ H;
@@ -50,21 +51,21 @@ demand-3 z k k′ es q =
       counted = λ a k″ d. (length (m .pool), free-next m k′ H a k″ d, refl, pool-and-resident m s);
       listed = λ room a k″ d. (recordsOf m, λ i h. list-next m k′ H i (room i) h (d i h .0) (a i) (k″ i) (d i h .1), listed-pages m s);
       one-read = λ i x v b a k″ d.
-          let t = stored-there z k k′ es q i x v b in
+          let t = stored-there m₀ k k′ es q i x v b in
           d .honest m H tt .answer-is ∙ read-there m i x v (t .stored) .one (lengths k′) (read-asks m k′ H i x (t .here));
       every-read = λ i x v b y n vs k″ d low high.
-          read-there m i x v (stored-there z k k′ es q i x v b .stored) .over y n (lengths k′) vs (sym (d .honest m H tt .answer-is)) low high;
+          read-there m i x v (stored-there m₀ k k′ es q i x v b .stored) .over y n (lengths k′) vs (sym (d .honest m H tt .answer-is)) low high;
       in-ram = λ i x v b a k″ d.
-          let t = stored-there z k k′ es q i x v b in
+          let t = stored-there m₀ k k′ es q i x v b in
           let b′ = t .stored in
           (b′ .place, translate-next m k′ H i x (b′ .place) (t .here) (b′ .is-at) a k″ d, ap (λ (ram : List ℕ). getD ram (b′ .place) 0) (H .ram-is) ∙ b′ .is);
       constant = λ i b a k″ d. d .bounds;
     }
 
 pub outside-writes : OutsideFor
-outside-writes z k k′ ts q =
-    let m = begun z (k .ram) in
-    let f = course-follows m (k .ram) (begins-holding z k (q .lent) (q .started) (q .accepted)) (q .course) in
+outside-writes s k k′ ts q =
+    let m = withRam s (k .ram) in
+    let f = course-follows m (k .ram) (begins-holding s k (q .started) (q .beginning)) (q .course) in
     let H = f .holds in
     let n = afterIn m ts in
     record {

@@ -2,7 +2,7 @@
 use mathlib.Core.Path.{_≡_, refl}
 use mathlib.Core.List.{List, [], _∷_, _++_}
 use lib.ListN.{replicate}
-use Rattle.machine.specs.Machine.{Lent, Call, start, mark, drop, touch, look, release, free, translate, read, write, list, Answer, done, old, new, resident, absent, pages, frames, at, bytes, regions, refused}
+use Rattle.machine.specs.Machine.{Lent, Call, start, mark, drop, touch, look, release, free, translate, read, write, list, Answer, done, old, new, resident, absent, pages, frames, at, bytes, regions, refused, refusedAfter}
 use Rattle.examples.specs.Session.{all, sizes, played}
 
 abbrev says : List Call → List Answer → Type 0
@@ -14,7 +14,7 @@ nothing = record { index = 0; count = 0; table = 0; helper = 0; stack = 0; cache
 -- no start made: 1 for every call but start
 no-start-made : says
     (mark 0 0 all ∷ drop 0 0 all ∷ touch 0 0 all ∷ look 0 0 all ∷ release 0 0 all ∷ free ∷ translate 0 0 all ∷ read 0 0 0 all ∷ write 0 0 [] all ∷ list 0 9 all ∷ [])
-    (replicate 10 (refused 1 0))
+    (refused 1 ∷ refused 1 ∷ refusedAfter 1 0 ∷ refusedAfter 1 0 ∷ replicate 6 (refused 1))
 unfolding played
 no-start-made = refl
 
@@ -30,7 +30,7 @@ refused-starts : says
     ∷ start (sizes 1 8 3 256) nothing
     ∷ free
     ∷ [])
-    (done ∷ replicate 7 (refused 1 0) ++ frames 3 ∷ [])
+    (done ∷ replicate 7 (refused 1) ++ frames 3 ∷ [])
 unfolding played
 refused-starts = refl
 
@@ -43,14 +43,14 @@ order : says
     ∷ look 0 7 (record { index = 1; count = 8; table = 8; helper = 8; stack = 8; cache = 8; link = 0; ram = 0 })
     ∷ look 0 7 (record { index = 1; count = 8; table = 8; helper = 8; stack = 8; cache = 7; link = 0; ram = 0 })
     ∷ [])
-    (done ∷ refused 1 0 ∷ refused 2 0 ∷ refused 3 0 ∷ refused 4 1 ∷ refused 1 0 ∷ [])
+    (done ∷ refusedAfter 1 0 ∷ refusedAfter 2 0 ∷ refusedAfter 3 0 ∷ refusedAfter 4 1 ∷ refusedAfter 1 0 ∷ [])
 unfolding played
 order = refl
 
 -- a mark below all starts cuts nothing, though the region above has a resident page; a mark in that region is refused wherever the page lies
 marks : says
     (start (sizes 1 8 3 256) all ∷ mark 0 4 all ∷ touch 0 5 all ∷ mark 0 2 all ∷ mark 0 5 all ∷ mark 0 7 all ∷ mark 0 4 all ∷ [])
-    (done ∷ done ∷ new 0 1 ∷ done ∷ refused 7 0 ∷ refused 7 0 ∷ refused 6 0 ∷ [])
+    (done ∷ done ∷ new 0 1 ∷ done ∷ refused 7 ∷ refused 7 ∷ refused 6 ∷ [])
 unfolding played
 marks = refl
 
@@ -67,14 +67,14 @@ drops : says
     ∷ drop 0 4 all
     ∷ look 0 5 all
     ∷ [])
-    (done ∷ refused 5 0 ∷ done ∷ new 0 1 ∷ refused 7 0 ∷ pages 1 ∷ pages 0 ∷ refused 5 0 ∷ done ∷ refused 4 1 ∷ [])
+    (done ∷ refused 5 ∷ done ∷ new 0 1 ∷ refused 7 ∷ pages 1 ∷ pages 0 ∷ refused 5 ∷ done ∷ refusedAfter 4 1 ∷ [])
 unfolding played
 drops = refl
 
 -- a find that lands in a lower space counts as it ran, and the page has no region
 lower-space : says
     (start (sizes 2 64 3 256) all ∷ mark 0 0 all ∷ look 1 0 all ∷ touch 1 0 all ∷ look 0 63 all ∷ mark 1 1 all ∷ touch 1 0 all ∷ touch 1 2 all ∷ look 1 2 all ∷ touch 1 2 all ∷ [])
-    (done ∷ done ∷ refused 4 3 ∷ refused 4 3 ∷ absent 1 ∷ done ∷ refused 4 3 ∷ new 0 1 ∷ resident 0 ∷ old 0 ∷ [])
+    (done ∷ done ∷ refusedAfter 4 3 ∷ refusedAfter 4 3 ∷ absent 1 ∷ done ∷ refusedAfter 4 3 ∷ new 0 1 ∷ resident 0 ∷ old 0 ∷ [])
 unfolding played
 lower-space = refl
 
@@ -90,7 +90,7 @@ empty-spans : says
     ∷ translate 0 511 all
     ∷ read 1 0 0 all
     ∷ [])
-    (done ∷ bytes [] ∷ bytes [] ∷ done ∷ refused 3 0 ∷ refused 3 0 ∷ refused 3 0 ∷ refused 4 0 ∷ refused 2 0 ∷ [])
+    (done ∷ bytes [] ∷ bytes [] ∷ done ∷ refused 3 ∷ refused 3 ∷ refused 3 ∷ refused 4 ∷ refused 2 ∷ [])
 unfolding played
 empty-spans = refl
 
@@ -105,7 +105,7 @@ reads : says
     ∷ translate 0 512 all
     ∷ translate 0 300 all
     ∷ [])
-    (done ∷ done ∷ new 0 1 ∷ refused 4 0 ∷ refused 10 0 ∷ bytes (7 ∷ 7 ∷ []) ∷ refused 10 0 ∷ at 44 ∷ [])
+    (done ∷ done ∷ new 0 1 ∷ refused 4 ∷ refused 10 ∷ bytes (7 ∷ 7 ∷ []) ∷ refused 10 ∷ at 44 ∷ [])
 unfolding played
 reads = refl
 
@@ -128,14 +128,14 @@ writes : says
     ∷ [])
     (done
     ∷ done
-    ∷ refused 4 0
-    ∷ refused 8 0
+    ∷ refused 4
+    ∷ refused 8
     ∷ frames 2
     ∷ absent 1
     ∷ done
     ∷ bytes (7 ∷ 8 ∷ 9 ∷ 7 ∷ [])
     ∷ at 255
-    ∷ refused 8 1
+    ∷ refusedAfter 8 1
     ∷ pages 2
     ∷ done
     ∷ bytes (5 ∷ [])
@@ -163,10 +163,10 @@ lists : says
     ∷ done
     ∷ new 0 1
     ∷ new 1 1
-    ∷ refused 11 0
+    ∷ refused 11
     ∷ regions (record { start = 2; length = 4; resident = 2 } ∷ record { start = 6; length = 2; resident = 0 } ∷ [])
     ∷ regions []
-    ∷ refused 2 0
+    ∷ refused 2
     ∷ [])
 unfolding played
 lists = refl
@@ -186,7 +186,7 @@ page-sizes : says
     ∷ start (sizes 1 1 1 128) all
     ∷ start (sizes 1 1 1 255) all
     ∷ [])
-    (replicate 9 done ++ replicate 3 (refused 1 0))
+    (replicate 9 done ++ replicate 3 (refused 1))
 unfolding played
 page-sizes = refl
 

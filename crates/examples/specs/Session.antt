@@ -8,7 +8,7 @@ use lib.Dec.{eqb}
 use lib.ListN.{replicate, take, drop as rest}
 use Rattle.sequence.specs.Lists.{tabulate}
 use Rattle.places.specs.Places.{lastBelow, wordsRead, size}
-use Rattle.machine.specs.Machine.{Sizes, State, Lent, unstarted, Call, start, mark, drop, touch, look, release, free, translate, read, write, list, Answer, done, old, new, resident, absent, pages, frames, at, bytes, regions, refused, answers, afterAll, step, asked, accepted, sizesOk, isPageSize, enough, startIn, frameIn, firstAbsence, anyOutside, countAbsent, touchAll, stored, untilStart, records}
+use Rattle.machine.specs.Machine.{Sizes, State, Lent, unstarted, Call, start, mark, drop, touch, look, release, free, translate, read, write, list, Answer, done, old, new, resident, absent, pages, frames, at, bytes, regions, refused, refusedAfter, answers, afterAll, step, asked, accepted, sizesOk, isPageSize, enough, startIn, frameIn, firstAbsence, anyOutside, countAbsent, touchAll, stored, untilStart, records}
 
 -- every buffer as long as it may ever have to be
 abbrev pub all : Lent
@@ -34,7 +34,7 @@ firstTen =
     ∷ []
 
 abbrev firstTenSay : List Answer
-firstTenSay = done ∷ done ∷ done ∷ new 0 1 ∷ new 1 1 ∷ new 2 1 ∷ old 0 ∷ refused 8 1 ∷ refused 7 0 ∷ pages 2 ∷ []
+firstTenSay = done ∷ done ∷ done ∷ new 0 1 ∷ new 1 1 ∷ new 2 1 ∷ old 0 ∷ refusedAfter 8 1 ∷ refused 7 ∷ pages 2 ∷ []
 
 abbrev session : List Call
 session =
@@ -56,7 +56,7 @@ unfoldable pub played : List Call → List Answer
 unfolding answers step asked accepted sizesOk isPageSize enough size tabulate startIn lastBelow frameIn wordsRead firstAbsence anyOutside countAbsent touchAll stored untilStart records
 played calls = answers (unstarted ram) calls
 
-session-says : played session ≡ firstTenSay ++ absent 1 ∷ new 2 1 ∷ refused 3 0 ∷ done ∷ new 0 1 ∷ pages 3 ∷ refused 6 0 ∷ []
+session-says : played session ≡ firstTenSay ++ absent 1 ∷ new 2 1 ∷ refusedAfter 3 0 ∷ done ∷ new 0 1 ∷ pages 3 ∷ refused 6 ∷ []
 unfolding played
 session-says = refl
 

@@ -37,11 +37,11 @@ module _ (h : Head) (i b : ℕ) (l : Lengths) (number : ℕ) (check : number ≡
     checked = check ∙ ap (λ (x : Lengths). checkOf h x i (ltb b (h .pages))) lent
 
     module _ (fails : number ≡ 0 → ⊥) (table helper stack cache link ram : List ℕ) where
-      pub mark-refused : let k = memory h ws count table helper stack cache link ram in Did (mark i b) k (refused number 0) k
-      mark-refused = mark-did i b _ _ _ (checked-no _ number _ _ _ _ checked fails refl refl)
+      pub mark-refused : let k = memory h ws count table helper stack cache link ram in Did (mark i b) k (refused number) k
+      mark-refused = mark-did i b _ _ _ (checked-no _ _ number _ _ _ _ checked fails refl refl)
 
-      pub drop-refused : let k = memory h ws count table helper stack cache link ram in Did (drop i b) k (refused number 0) k
-      drop-refused = drop-did i b _ _ _ (checked-no _ number _ _ _ _ checked fails refl refl)
+      pub drop-refused : let k = memory h ws count table helper stack cache link ram in Did (drop i b) k (refused number) k
+      drop-refused = drop-did i b _ _ _ (checked-no _ _ number _ _ _ _ checked fails refl refl)
 
     module _ (pass : number ≡ 0) (t p : ℕ) (et : t ≡ places (sizesOf h)) (ep : p ≡ placeOf (sizesOf h) i b) where
       pub searchable : Searchable t p ws count
@@ -61,9 +61,9 @@ module _ (h : Head) (i b : ℕ) (l : Lengths) (number : ℕ) (check : number ≡
         pub marked : (lo : ℕ) → lo ≡ placeOf (sizesOf h) i 0 → MarkedAt t lo p ws count a ws′ → (table helper stack cache link ram : List ℕ)
             → Did (mark i b) (memory h ws count table helper stack cache link ram) a (memory h ws′ count table helper stack cache link ram)
         marked lo el d table helper stack cache link ram =
-            mark-did i b _ _ _ (checked-yes _ number _ _ _ _ checked pass (rw (← ep, ← el) (d h table helper stack cache link ram (sym et))))
+            mark-did i b _ _ _ (checked-yes _ _ number _ _ _ _ checked pass (rw (← ep, ← el) (d h table helper stack cache link ram (sym et))))
 
         pub dropped : DroppedAt t p ws count a ws′ → (table helper stack cache link ram : List ℕ)
             → Did (drop i b) (memory h ws count table helper stack cache link ram) a (memory h ws′ count table helper stack cache link ram)
         dropped d table helper stack cache link ram =
-            drop-did i b _ _ _ (checked-yes _ number _ _ _ _ checked pass (rw (← ep) (d h table helper stack cache link ram (sym et))))
+            drop-did i b _ _ _ (checked-yes _ _ number _ _ _ _ checked pass (rw (← ep) (d h table helper stack cache link ram (sym et))))

@@ -43,7 +43,7 @@ module _ (v : Bool) (t p : ℕ) (ws count : List ℕ) where
   abbrev Unless : ℕ → Answer → List ℕ → Type 0
   Unless n a ws′ = Around t ws count (λ k. PutsUnless n v p k a (withIndex k ws′))
 
-  way-full : (n : ℕ) → (n ≡ 0 → ⊥) → Unless n (refused 7 0) ws
+  way-full : (n : ℕ) → (n ≡ 0 → ⊥) → Unless n (refused 7) ws
   way-full zero full h table helper stack cache link ram et = absurd (full refl)
   way-full (suc n) full h table helper stack cache link ram et = record { answer-is = refl; same = refl }
 
@@ -63,10 +63,10 @@ module _ (t p : ℕ) (ws count : List ℕ) (r : Membership) (asked : Asked t p w
     abbrev Marks : Answer → List ℕ → Memory → index.Answer → Type 0
     Marks a ws′ k s = MarkIf s p lo k a (withIndex k ws′)
 
-    pub mark-member : r ≡ Member → MarkedAt t lo p ws count (refused 6 0) ws
+    pub mark-member : r ≡ Member → MarkedAt t lo p ws count (refused 6) ws
     mark-member e = asks (Marks _ ws) (λ h table helper stack cache link ram et. rw e (record { answer-is = refl; same = refl }))
 
-    pub mark-broken : (n : ℕ) → r ≡ Refused n → MarkedAt t lo p ws count (refused 9 0) ws
+    pub mark-broken : (n : ℕ) → r ≡ Refused n → MarkedAt t lo p ws count (refused 9) ws
     mark-broken n e = asks (Marks _ ws) (λ h table helper stack cache link ram et. rw e (record { answer-is = refl; same = refl }))
 
     module _ (absent : r ≡ Absent) (n : ℕ) (cut : CutPages t lo p ws count n) where
@@ -77,7 +77,7 @@ module _ (t p : ℕ) (ws count : List ℕ) (r : Membership) (asked : Asked t p w
           rw absent
           (record { found = cut .found; sought = rw et (cut .sought); done-then = rw (cut .is) at (d h table helper stack cache link ram et) }))
 
-      pub mark-full : (n ≡ 0 → ⊥) → MarkedAt t lo p ws count (refused 7 0) ws
+      pub mark-full : (n ≡ 0 → ⊥) → MarkedAt t lo p ws count (refused 7) ws
       mark-full full = mark-then _ _ (way-full true t p ws count n full)
 
       pub mark-put : (d : Change) (a : Answer) (ws′ : List ℕ) → n ≡ 0 → Put true t p ws (index.changeSays d) ws′ → a ≡ changeAnswer d → MarkedAt t lo p ws count a ws′
@@ -87,17 +87,17 @@ module _ (t p : ℕ) (ws count : List ℕ) (r : Membership) (asked : Asked t p w
   abbrev Drops : Answer → List ℕ → Memory → index.Answer → Type 0
   Drops a ws′ k s = DropIf s p k a (withIndex k ws′)
 
-  pub drop-absent : r ≡ Absent → DroppedAt t p ws count (refused 5 0) ws
+  pub drop-absent : r ≡ Absent → DroppedAt t p ws count (refused 5) ws
   drop-absent e = asks (Drops _ ws) (λ h table helper stack cache link ram et. rw e (record { answer-is = refl; same = refl }))
 
-  pub drop-broken : (n : ℕ) → r ≡ Refused n → DroppedAt t p ws count (refused 9 0) ws
+  pub drop-broken : (n : ℕ) → r ≡ Refused n → DroppedAt t p ws count (refused 9) ws
   drop-broken n e = asks (Drops _ ws) (λ h table helper stack cache link ram et. rw e (record { answer-is = refl; same = refl }))
 
   module _ (member : r ≡ Member) where
     drop-then : (a : Answer) (ws′ : List ℕ) → Unless false t p ws count (at count p) a ws′ → DroppedAt t p ws count a ws′
     drop-then a ws′ d = asks (Drops a ws′) (λ h table helper stack cache link ram et. rw member (d h table helper stack cache link ram et))
 
-    pub drop-full : (at count p ≡ 0 → ⊥) → DroppedAt t p ws count (refused 7 0) ws
+    pub drop-full : (at count p ≡ 0 → ⊥) → DroppedAt t p ws count (refused 7) ws
     drop-full full = drop-then _ _ (way-full false t p ws count (at count p) full)
 
     pub drop-put : (d : Change) (a : Answer) (ws′ : List ℕ) → at count p ≡ 0 → Put false t p ws (index.changeSays d) ws′ → a ≡ changeAnswer d

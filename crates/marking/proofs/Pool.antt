@@ -18,18 +18,18 @@ module _ (h : Head) where
       (index count table helper stack cache link ram : List ℕ)
       → let k = memory h index count table helper stack cache link ram in Did (λ _. free) k a k
 
-  pub not-started : sizesOk (sizesOf h) ≡ false → DidFree (refused 1 0)
+  pub not-started : sizesOk (sizesOf h) ≡ false → DidFree (refused 1)
   not-started e index count table helper stack cache link ram = free-did _ _ _ (rw e (record { answer-is = refl; same = refl }))
 
   module _ (ok : sizesOk (sizesOf h) ≡ true) where
     says : (a : Answer) → a ≡ freeSays h → DidFree a
     says a e index count table helper stack cache link ram = free-did _ _ _ (rw ok (e, refl))
 
-    pub too-many : h .frames < h .many → DidFree (refused 9 0)
+    pub too-many : h .frames < h .many → DidFree (refused 9)
     unfolding freeSays
     too-many l = says _ (rw (lt-leb (h .many) (h .frames) l))
 
-    pub too-fresh : h .many ≤ h .frames → h .frames < h .fresh → DidFree (refused 9 0)
+    pub too-fresh : h .many ≤ h .frames → h .frames < h .fresh → DidFree (refused 9)
     unfolding freeSays
     too-fresh m l = says _ (rw (le-leb (h .many) (h .frames) m, lt-leb (h .fresh) (h .frames) l))
 

@@ -47,7 +47,7 @@ module _ (head : Head) (s n f bytes : ℕ) (ws count : List ℕ) (made : MadeSiz
       (table helper stack cache link ram : List ℕ)
       → Did (start (sizes s n f bytes)) (memory head ws count table helper stack cache link ram) a (memory h′ ws′ count′ table helper stack cache link ram)
 
-  pub start-no-size : (k : ℕ) (h′ : Head) (a : Answer) → made ≡ Refused k → (h′ ≡ head) × (a ≡ refused 1 0) → DidStart h′ a ws count
+  pub start-no-size : (k : ℕ) (h′ : Head) (a : Answer) → made ≡ Refused k → (h′ ≡ head) × (a ≡ refused 1) → DidStart h′ a ws count
   start-no-size k h′ a e r table helper stack cache link ram =
       start-did s n f bytes _ a _
       (rw (← sized, e)
@@ -61,13 +61,13 @@ module _ (head : Head) (s n f bytes : ℕ) (ws count : List ℕ) (made : MadeSiz
     checked : number ≡ checkOf next (lentTo (length ws) (length count)) 0 true
     checked = check ∙ ap (λ (x : Lengths). checkOf next x 0 true) lent
 
-    pub start-refused : (h′ : Head) (a : Answer) → (number ≡ 0 → ⊥) → (h′ ≡ head) × (a ≡ refused number 0) → DidStart h′ a ws count
+    pub start-refused : (h′ : Head) (a : Answer) → (number ≡ 0 → ⊥) → (h′ ≡ head) × (a ≡ refused number) → DidStart h′ a ws count
     start-refused h′ a fails r table helper stack cache link ram =
         start-did s n f bytes _ a _
         (rw (← sized, made-is)
-        (size .shift, refl, checked-no _ number _ _ _ a checked fails (r .1) (ap (λ (x : Head). memory x ws count table helper stack cache link ram) (r .0))))
+        (size .shift, refl, checked-no _ _ number _ _ _ a checked fails (r .1) (ap (λ (x : Head). memory x ws count table helper stack cache link ram) (r .0))))
 
     pub start-begun : (h′ : Head) (a : Answer) (ws′ count′ : List ℕ) → number ≡ 0 → Begins next ws count h′ a ws′ count′ → DidStart h′ a ws′ count′
     start-begun h′ a ws′ count′ pass d table helper stack cache link ram =
         start-did s n f bytes _ a _
-        (rw (← sized, made-is) (size .shift, refl, checked-yes _ number _ _ _ a checked pass (d head table helper stack cache link ram)))
+        (rw (← sized, made-is) (size .shift, refl, checked-yes _ _ number _ _ _ a checked pass (d head table helper stack cache link ram)))

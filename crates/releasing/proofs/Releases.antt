@@ -106,7 +106,7 @@ splice-ready h i b index count table stack link r a cut is =
 -- ---- the whole release
 
 release-done : (n : ℕ) (k : Memory) (i b : ℕ) (r : Cut) → CutOfIf n k i b r → (a : Answer) (k′ : Memory) → a ≡ cutSays r k → k′ ≡ cutLeaves r k
-    → Checked n (λ a k′. Releases k (placeOf (sizesOf (k .head)) i b) a k′) k a k′
+    → Checked refused n (λ a k′. Releases k (placeOf (sizesOf (k .head)) i b) a k′) k a k′
 release-done zero k i b r w a k′ says leaves =
     record { is-set = w .is-set; set-asked = w .set-asked; answer-is = rw (w .is) at says; after-is = rw (w .is) at leaves }
 release-done (suc n) k i b r w a k′ says leaves = record { answer-is = rw w at says; same = rw w at leaves }
@@ -123,8 +123,8 @@ module _ (h : Head) (i b : ℕ) (index count table stack link : List ℕ) (r : C
   pub did-nothing : r ≡ cut-is.Empty → Did (release i b) before (pages 0) before
   did-nothing is = released (pages 0) before (rw is (refl, refl))
 
-  pub did-refuse : (n : ℕ) → r ≡ cut-is.Refused n → Did (release i b) before (refused n 0) before
-  did-refuse n is = released (refused n 0) before (rw is (refl, refl))
+  pub did-refuse : (n : ℕ) → r ≡ cut-is.Refused n → Did (release i b) before (refused n) before
+  did-refuse n is = released (refused n) before (rw is (refl, refl))
 
   pub did-splice : (a : ℕ) (s : Spliced) (count′ link′ : List ℕ) → r ≡ cut-is.At a → Splices h count table stack link a s count′ link′
       → Did (release i b) before (pages (s .pages)) (memory (s .head) index count′ table helper stack cache link′ ram)

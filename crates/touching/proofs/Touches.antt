@@ -7,7 +7,8 @@ use native.Mathlib.Omega.{arith}
 use borrow.Author.Tests.{ltb-true}
 use lib.Dec.{ltb}
 use lib.ListN.{length}
-use Rattle.machine.specs.Machine.{Sizes, places, placeOf, touch, asked, Answer, old, new, refused}
+use Rattle.machine.specs.declared.PageCall.the-variants.{Touch}
+use Rattle.machine.specs.Machine.{Sizes, places, placeOf, touch, asked, Answer, old, new, refusedAfter}
 use Rattle.machine.specs.Laws.Sizes.{both, fit, place-below}
 use Rattle.memory.specs.Memory.{Memory, memory, at, sizesOf, lengths}
 use Rattle.memory.specs.declared.Head.{Head}
@@ -19,8 +20,8 @@ use Rattle.memory.specs.declared.Plan.the-variants as plan-is
 use Rattle.promise.specs.Did.{Tables, Did}
 use Rattle.laws.specs.Models.{checkOf, emptyPool, topOk, fitOk, planIf, planFor, takenFrom, planSays, planLeaves, SeenAt, touchLengths}
 use Rattle.laws.specs.Checking as checking
-use Rattle.laws.specs.Passing.{touch-passes}
-use Rattle.laws.specs.Checks.{touch-check}
+use Rattle.laws.specs.Passing.{page-passes}
+use Rattle.laws.specs.Checks.{page-check}
 use Rattle.laws.specs.Told.{early-refused}
 use Rattle.laws.specs.Touching.{seen-inside, new-inside, touch-did}
 use Rattle.lookup.specs.Ready.{Ready, SeenOf, frameOf}
@@ -39,8 +40,8 @@ module _ (h : Head) (i b : ℕ) (index count table helper stack cache link : Lis
         link-long = y .lent .link refl;
       }
 
-  pub touch-refused : (no ≡ 0 → ⊥) → (ram : List ℕ) → let k = memory h index count table helper stack cache link ram in Did (touch i b) k (refused no 0) k
-  touch-refused some ram = let k = memory h index count table helper stack cache link ram in early-refused (touch i b) k no (checked ∙ touch-check k i b) some
+  pub touch-refused : (no ≡ 0 → ⊥) → (ram : List ℕ) → let k = memory h index count table helper stack cache link ram in Did (touch i b) k (refusedAfter no 0) k
+  touch-refused some ram = let k = memory h index count table helper stack cache link ram in early-refused (touch i b) k no (checked ∙ page-check k i b Touch (touchLengths k) refl) some
 
 -- a touch changes neither sizes nor lengths
 pub still-touchable : {z : Sizes} {x c t e s a l : ℕ} {k k′ : Memory} → Tables z x c t e s a l k k′ → {i b : ℕ}
@@ -115,7 +116,7 @@ module _ (h : Head) (i b : ℕ) (index count table helper stack cache link : Lis
   passes : (ram : List ℕ) → asked (sizesOf h) (touch i b (lengths (memory h index count table helper stack cache link ram))) ≡ 0
   passes ram =
       let g = y .ready in
-      touch-passes (sizesOf h) i b _ (g .sizes-ok) (g .space) (g .page) (ready-long h i b index count table helper stack cache g link ram _ (λ _. y .link-long) not-lent)
+      page-passes (sizesOf h) Touch i b _ (g .sizes-ok) (g .space) (g .page) (ready-long h i b index count table helper stack cache g link ram _ (λ _. y .link-long) not-lent)
 
   pub touch-mappable : (a c : ℕ) → r ≡ plan-is.New a c → (p : ℕ) → p ≡ placeOf (sizesOf h) i b → Mappable h count table helper stack cache link a p
   touch-mappable a c is p ep =
@@ -148,14 +149,14 @@ module _ (h : Head) (i b : ℕ) (index count table helper stack cache link : Lis
     touched : (a : Answer) (k′ : Memory) → (a ≡ planSays r before) × (k′ ≡ planLeaves r before (placeOf (sizesOf h) i b)) → Did (touch i b) before a k′
     touched a k′ (says, leaves) =
         touch-did i b before a k′
-        (checking.checked-yes _ 0 _ before k′ a (sym (touch-check before i b ∙ passes ram)) refl
+        (checking.checked-yes _ _ 0 _ before k′ a (sym (page-check before i b Touch (touchLengths before) refl ∙ passes ram)) refl
         (record { sight = planned .sight; seen = planned .seen; answer-is = rw (planned .is) at says; after-is = rw (planned .is) at leaves }))
 
     pub did-old : (f : ℕ) → r ≡ plan-is.Old f → Did (touch i b) before (old f) before
     did-old f is = touched (old f) before (rw is (refl, refl))
 
-    pub did-refuse : (n c : ℕ) → r ≡ plan-is.Refused n c → Did (touch i b) before (refused n c) before
-    did-refuse n c is = touched (refused n c) before (rw is (refl, refl))
+    pub did-refuse : (n c : ℕ) → r ≡ plan-is.Refused n c → Did (touch i b) before (refusedAfter n c) before
+    did-refuse n c is = touched (refusedAfter n c) before (rw is (refl, refl))
 
     pub did-new : (a c p : ℕ) (t : Taken) (count′ table′ helper′ stack′ cache′ link′ : List ℕ) → r ≡ plan-is.New a c → p ≡ placeOf (sizesOf h) i b
         → Mapped h count table helper stack cache link a p t count′ table′ helper′ stack′ cache′ link′

@@ -78,7 +78,7 @@ module _ {k : Memory} {i x : ℕ} {vs : List ℕ} {first pages : ℕ} (s : Spann
             (count-is ∙ ap (λ (y : Sizes). spanPages y x (length vs)) (H .sizes-are));
       }
 
-  pub refused-short : {short : ℕ} → Decided k i x vs short → (short ≡ 0 → ⊥) → Did (write i x vs) k (refused short 0) k
+  pub refused-short : {short : ℕ} → Decided k i x vs short → (short ≡ 0 → ⊥) → Did (write i x vs) k (refused short) k
   refused-short d not-none = write-refused i x vs k (s .passes) _ (d .late not-none) (d .is)
 
   -- ---- where every page is resident: nothing is to be settled, and a touch of each leaves all as it is

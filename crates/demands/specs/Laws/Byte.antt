@@ -4,16 +4,15 @@ use mathlib.Core.List.{List, [], _∷_, _++_}
 use Prim.Native.Nat.{ℕ, _-_}
 use native.Mathlib.Omega.{arith}
 use lib.ListN.{length}
-use Rattle.machine.specs.Machine.{Sizes, State, write, done, begun, answer, after, afterAll}
+use Rattle.machine.specs.Machine.{Sizes, State, write, done, withRam, answer, after, afterAll}
 use Rattle.machine.specs.Claims.{Address, Stored}
-use Rattle.machine.specs.Laws.Steps.{step-sound}
-use Rattle.machine.specs.Laws.Bytes.{wrote, write-stores, history-leaves}
-use Rattle.machine.specs.Laws.Changes.{may-change}
+use Rattle.machine.specs.Laws.Bytes.{wrote, write-stores}
+use Rattle.machine.specs.Laws.Calls.{step-sound, history-leaves, may-change}
 use Rattle.memory.specs.Memory.{Memory}
 use Rattle.demands.specs.History.{Event, played, calls, Step, Run, next}
 use Rattle.demands.specs.Demands.{machineAt, Sequence, StoredAt}
 use Rattle.demands.specs.Laws.Step.{step-follows}
-use Rattle.demands.specs.Laws.Run.{run-follows, run-split, started-holds}
+use Rattle.demands.specs.Laws.Run.{run-follows, run-split, begins-holding}
 
 first-step : {k k′ : Memory} {e : Event} {es : List Event} → Run k (e ∷ es) k′ → (k₁ : Memory) × Step k e k₁
 first-step (next {k₁ = k₁} s r) = (k₁, s)
@@ -29,21 +28,21 @@ pub record There (m : State) (i x v : ℕ) : Type 0 where
   pub here : Address (m .sizes) i x
   pub stored : Stored m i x v
 
-module _ (z : Sizes) (k k′ : Memory) (es : List Event) (q : Sequence z k es k′) (i x v : ℕ) (s : StoredAt z k es i x v) where
+module _ (n : State) (k k′ : Memory) (es : List Event) (q : Sequence n k es k′) (i x v : ℕ) (s : StoredAt n k es i x v) where
   wrote-event : Event
   wrote-event = record { call = write i (s .from) (s .values); lent = s .lent; answer = done }
 
-  pub stored-there : There (machineAt z k es) i x v
+  pub stored-there : There (machineAt n k es) i x v
   unfolding wrote-event
   stored-there =
-      let m = machineAt z k (s .before) in
+      let m = machineAt n k (s .before) in
       let c = write i (s .from) (s .values) (s .lent) in
       let (k₁, before, later) = run-split (s .before) (wrote-event ∷ s .later) (subst (λ (xs : List Event). Run (q .started) xs k′) (s .is-history) (q .run)) in
-      let H = run-follows (begun z (k .ram)) (started-holds z k k′ es q) before .holds in
+      let H = run-follows (withRam n (k .ram)) (begins-holding n k (q .started) (q .beginning)) before .holds in
       let (k₂, one) = first-step later in
       let w = wrote m i (s .from) (s .values) (s .lent) (sym (step-follows m k₁ wrote-event k₂ H one .answer-is)) in
       let b = write-stores m i (s .from) (s .values) (after m c) x (H .sound) (omega (arith, H .roomy .ram, ap length (H .ram-is))) w (s .low) (s .high) in
       let here = subst (λ (y : Sizes). Address y i x) (sym (may-change m c (H .sound) .sizes)) (record { space = w .space; inside = omega (arith, w .fits, s .high) }) in
       let r = history-leaves (after m c) (calls (s .later)) i x _ (step-sound m c (H .sound)) here b (s .spared) in
-      subst (λ (y : State). There y i x v) (sym (ap (λ (xs : List Event). machineAt z k xs) (s .is-history) ∙ after-append (begun z (k .ram)) (s .before) wrote-event (s .later)))
+      subst (λ (y : State). There y i x v) (sym (ap (λ (xs : List Event). machineAt n k xs) (s .is-history) ∙ after-append (withRam n (k .ram)) (s .before) wrote-event (s .later)))
       (record { here = subst (λ (y : Sizes). Address y i x) (sym (r .1)) here; stored = subst (λ (y : ℕ). Stored (afterAll (after m c) (calls (s .later))) i x y) (s .value-is) (r .0) })

@@ -8,12 +8,12 @@ use native.Mathlib.Omega.{arith}
 use lib.ListN.{length, take, drop, length-set, take-append-drop}
 use lib.Seq.{length-take-le, take-length, drop-length, getD-take, set-append-left}
 use Rattle.sequence.specs.Lists.{tabulate}
-use Rattle.machine.specs.Machine.{Sizes, State, Lent, pageOfAddress, spanPages, ramAt, Call, read, write, asked, Answer, bytes, Out, tell, spanAbsence, byteIn, byteAt, readIf, storeIn, stored, withRam, storeAll, spanTouched, spanOutside, spanShort, writeIf, accepted, unless, step, answer, after}
+use Rattle.machine.specs.Machine.{Sizes, State, Lent, pageOfAddress, spanPages, ramAt, Call, read, write, asked, Answer, bytes, Out, tell, spanAbsence, byteIn, byteAt, readIf, storeIn, stored, withRam, storeAll, spanTouched, spanOutside, spanShort, writeIf, refusal, accepted, unless, step, answer, after}
 use Rattle.machine.specs.Claims.{Sound}
 use Rattle.machine.specs.Laws.Steps.{sound-all-touched}
 use Rattle.machine.specs.Laws.Stays.{grown-all-touched}
 use Rattle.machine.specs.Laws.Holders.{ram-below}
-use Rattle.demands.specs.Laws.Unseen.{absence-any, outside-any, absent-any, touched-any, stored-any}
+use Rattle.machine.specs.Laws.Unseen.{absence-any, outside-any, absent-any, touched-any, stored-any}
 
 -- the machine with its RAM cut after n bytes, and with bytes put behind its RAM
 abbrev pub cut : ℕ → State → State
@@ -76,7 +76,7 @@ module _ (m : State) (s : Sound m) (n : ℕ) (enough : m .sizes .frames * m .siz
   unfolding step
   same-checked c h = go (asked (m .sizes) c)
     where
-      go : (k : ℕ) → SameOut n m (unless k (cut n m) (accepted (cut n m) c)) (unless k m (accepted m c))
+      go : (k : ℕ) → SameOut n m (unless (refusal c) k (cut n m) (accepted (cut n m) c)) (unless (refusal c) k m (accepted m c))
       go zero = h
       go (suc k) = told _ _ refl
 

@@ -3,13 +3,14 @@ use mathlib.Core.Path.{_≡_, refl, sym, ap, ap₂, _∙_}
 use mathlib.Core.List.{List, [], _∷_, map}
 use Prim.Native.Nat.{ℕ}
 use Rattle.machine.specs.Machine.{State, withRam, Answer, answers, answer, after, afterAll}
+use Rattle.machine.specs.Claims.{blind}
 use Rattle.memory.specs.Memory.{Memory}
 use Rattle.promise.specs.Holds.{Holds}
 use Rattle.laws.specs.Writing.{bytes-hold}
 use Rattle.demands.specs.History.{Event, played, calls}
-use Rattle.demands.specs.Outside.{Turn, called, filled, Course, none, call, fill, made, answersIn, afterIn, blind}
+use Rattle.demands.specs.Outside.{Turn, called, filled, Course, none, call, fill, made, answersIn, afterIn}
 use Rattle.demands.specs.Laws.Step.{step-follows}
-use Rattle.demands.specs.Laws.Unseen.{alike}
+use Rattle.machine.specs.Laws.Calls.{alike}
 
 -- of the machine m with another RAM, beside m itself that nobody wrote to
 pub record Filled (m : State) (ram : List ℕ) (ts : List Turn) (k′ : Memory) : Type 0 where

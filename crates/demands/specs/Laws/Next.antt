@@ -69,7 +69,7 @@ module _ (m : State) (k : Memory) (H : Holds m k) where
           }
       go (suc j) e =
           absurd
-          (let f : at p ≡ refused (suc j) 0 = d .honest m H tt .answer-is ∙ ap (λ (o : Out). o .answer) (refused-step m c j e) in
+          (let f : at p ≡ refused (suc j) = d .honest m H tt .answer-is ∙ ap (λ (o : Out). o .answer) (refused-step m c j e) in
           let w : _≡_ {A = ℕ} 0 1 = cc in
           omega arith)
 

@@ -1,13 +1,15 @@
 -- A sequence of calls: every answer is the machine's, and the memory stands for the machine all along.
-use mathlib.Core.Path.{_≡_, refl, ap₂}
+use mathlib.Core.Path.{_≡_, refl, ap, ap₂, _∙_}
+use mathlib.Core.Bool.{false≢true}
 use mathlib.Core.List.{List, [], _∷_, _++_, map}
 use Prim.Native.Nat.{ℕ, zero, suc}
-use native.Mathlib.Omega.{arith}
-use Rattle.machine.specs.Machine.{Sizes, State, Lent, Call, start, done, begun, answers, after, afterAll}
+use Rattle.machine.specs.Machine.{State, Call, facts, Kind, refusalOf, done, withRam, answers, after, afterAll}
+use Rattle.machine.specs.Claims.{isRefused}
+use Rattle.machine.specs.Laws.Calls.{is-refusal}
 use Rattle.memory.specs.Memory.{Memory}
 use Rattle.promise.specs.Holds.{Holds}
 use Rattle.promise.specs.Did.{Exactly}
-use Rattle.demands.specs.History.{Event, played, calls, Step, Run, none, next}
+use Rattle.demands.specs.History.{Event, played, calls, Step, Run, none, next, Beginning}
 use Rattle.demands.specs.Demands.{Sequence}
 use Rattle.demands.specs.Laws.Step.{told, begun-holds, step-follows}
 
@@ -28,18 +30,20 @@ pub run-split : {k k′ : Memory} (xs ys : List Event) → Run k (xs ++ ys) k′
 run-split {k} [] ys r = (k, none, r)
 run-split (x ∷ xs) ys (next s r) = let (k₁, before, later) = run-split xs ys r in (k₁, next s before, later)
 
--- the accepted start, on memory that held anything
 pub accepted-asks : (j : ℕ) (c : Call) → Exactly j c done → j ≡ 0
 accepted-asks zero c e = refl
-accepted-asks (suc j) c e = absurd (let z : _≡_ {A = ℕ} 0 1 = cc in omega arith)
+accepted-asks (suc j) c e = absurd (no-refusal (facts c .kind) (suc j) e)
+  where
+    no-refusal : (d : Kind) (n : ℕ) → done ≡ refusalOf d n → ⊥
+    no-refusal d n e = false≢true (ap isRefused e ∙ is-refusal d n)
 
-pub begins-holding : (z : Sizes) (k : Memory) (l : Lent) (k′ : Memory) → Step k (record { call = start z; lent = l; answer = done }) k′ → Holds (begun z (k .ram)) k′
-begins-holding z k l k′ s =
-    let t = told k _ _ s in
-    rw (s .after-is) (begun-holds k l done _ z l (accepted-asks _ _ (t .asks)) t .1)
+-- an accepted beginning, on memory that held anything
+pub begins-holding : (m : State) (k k′ : Memory) → Beginning m k k′ → Holds (withRam m (k .ram)) k′
+begins-holding m k k′ b =
+    let t = told k (b .first) k′ (b .step) in
+    rw (b .step .after-is)
+    (begun-holds k (b .first .lent) (b .first .answer) _ m (played (b .first)) (b .begins)
+    (accepted-asks _ (played (b .first)) (rw (b .accepted) at (t .asks))) t .1)
 
-pub started-holds : (z : Sizes) (k k′ : Memory) (es : List Event) → (q : Sequence z k es k′) → Holds (begun z (k .ram)) (q .started)
-started-holds z k k′ es q = begins-holding z k (q .lent) (q .started) (q .accepted)
-
-pub sequence-follows : (z : Sizes) (k k′ : Memory) (es : List Event) → Sequence z k es k′ → Followed (begun z (k .ram)) es k′
-sequence-follows z k k′ es q = run-follows (begun z (k .ram)) (started-holds z k k′ es q) (q .run)
+pub sequence-follows : (m : State) (k k′ : Memory) (es : List Event) → Sequence m k es k′ → Followed (withRam m (k .ram)) es k′
+sequence-follows m k k′ es q = run-follows (withRam m (k .ram)) (begins-holding m k (q .started) (q .beginning)) (q .run)

@@ -1,20 +1,24 @@
 -- One call of a sequence gives the answer of the machine that the memory stands for, and leaves memory that stands for the machine after it.
 use mathlib.Core.Path.{_≡_, refl, sym, ap, _∙_, subst}
-use mathlib.Core.Bool.{true}
+use mathlib.Core.Bool.{Bool, true, false, false≢true}
+use mathlib.Core.Option.{Option, none, some}
 use mathlib.Core.List.{List}
 use Prim.Native.Nat.{ℕ, zero, suc, _*_, _≤_}
 use native.Mathlib.Omega.{arith}
 use lib.ListN.{length, length-take, take-append-drop}
-use Rattle.machine.specs.Machine.{Sizes, State, Lent, uses, Call, start, mark, drop, touch, look, release, free, translate, read, write, list, asked, Answer, done, refused, Out, begun, accepted}
+use Rattle.machine.specs.declared.PageCall.the-variants.{Mark, Drop, Touch, Look, Release}
+use Rattle.machine.specs.Machine.{Sizes, State, Lent, uses, facts, sizesBy, sizesFor, Call, start, page, free, translate, read, write, list, asked}
+use Rattle.machine.specs.Machine.{Answer, done, refusal, Out, withRam}
+use Rattle.machine.specs.Laws.Calls.{begins-so}
 use Rattle.memory.specs.Memory.{Memory, sizesOf, lengths}
 use Rattle.promise.specs.Holds.{Roomy, Holds}
-use Rattle.promise.specs.Did.{Exactly, still, Follows, Room, Begins}
-use Rattle.laws.specs.Refusals.{passed-step, refused-step}
-use Rattle.demands.specs.History.{front, rejoined, Parts, Carries, Event, played, Step}
+use Rattle.promise.specs.Did.{Exactly, still, Follows, RoomBy, Room, BeginsBy, Begins}
+use Rattle.laws.specs.Refusals.{passed-step, refused-step, refusal-still}
+use Rattle.demands.specs.History.{front, rejoined, Lends, Parts, Carries, Event, played, Step}
 use Rattle.demands.specs.Laws.Parts.{lengths-front, roomy-front, rejoined-front}
 use Rattle.demands.specs.Laws.Cut.{cut, SameCut, same-whole, same-read, same-write}
 use Rattle.demands.specs.Laws.Agree.{front-holds, rejoined-holds}
-use Rattle.demands.specs.Laws.Lent.{sizesFor, asked-long}
+use Rattle.demands.specs.Laws.Lent.{asked-long}
 
 -- the promise on the part that was lent, its lengths being those that the call carries
 pub record Told (k : Memory) (n : Lent) (c : Call) (a : Answer) (part : Memory) : Type 0 where
@@ -45,13 +49,15 @@ module _ (k : Memory) (n : Lent) (a : Answer) (part : Memory) where
   roomy-part : (z : Sizes) (c : Call) → asked z c ≡ 0 → Told k n c a part → Roomy (sizesFor z c) k → Roomy (sizesFor z c) (front n k)
   roomy-part z c e t r = roomy-front (uses c) n k (t .parts) _ (asked-long z c n (t .carries) e) r
 
-  -- an accepted start makes any memory honest
-  pub begun-holds : (z : Sizes) (l : Lent) → asked (sizesOf (k .head)) (start z l) ≡ 0 → Told k n (start z l) a part
-      → (a ≡ done) × Holds (begun z (k .ram)) (rejoined n part k)
-  begun-holds z l e t =
-      let b = t .begins e in
-      let h = b .1 .holds (roomy-part _ (start z l) e t (t .room (b .0))) in
-      (b .0, subst (λ (ram : List ℕ). Holds (begun z ram) (rejoined n part k)) (take-append-drop (n .ram) (k .ram)) (rejoined-holds _ n k part (k .ram) refl h))
+  -- an accepted beginning makes any memory honest
+  pub begun-holds : (s : State) (c : Call) → facts c .begins ≡ some s → asked (sizesOf (k .head)) c ≡ 0 → Told k n c a part
+      → (a ≡ done) × Holds (withRam s (k .ram)) (rejoined n part k)
+  begun-holds s c is e t =
+      let b = subst (λ (o : Option State). BeginsBy o (asked (sizesOf (k .head)) c) (front n k) a part) is (t .begins) e in
+      let room = subst (λ (o : Option State). RoomBy o k) is (t .room (b .0)) in
+      let sizes-are = ap (sizesBy (sizesOf (k .head))) is in
+      let r = rw sizes-are at (roomy-part (sizesOf (k .head)) c e t (rw sizes-are room)) in
+      (b .0, subst (λ (ram : List ℕ). Holds (withRam s ram) (rejoined n part k)) (take-append-drop (n .ram) (k .ram)) (rejoined-holds _ n k part (k .ram) refl (b .1 r)))
 
   module _ (m : State) (H : Holds m k) where
     abbrev Beside : Call → Type 0
@@ -60,19 +66,18 @@ module _ (k : Memory) (n : Lent) (a : Answer) (part : Memory) where
     -- refused with 1, 2 or 3: nothing changed
     early : (c : Call) (j : ℕ) → asked (m .sizes) c ≡ suc j → Told k n c a part → Beside c
     early c j e t =
-        let r : a ≡ refused (suc j) 0 = subst (λ (i : ℕ). Exactly i c a) (ap (λ (z : Sizes). asked z c) (H .sizes-are) ∙ e) (t .asks) in
+        let r : a ≡ refusal c (suc j) = subst (λ (i : ℕ). Exactly i c a) (ap (λ (z : Sizes). asked z c) (H .sizes-are) ∙ e) (t .asks) in
         let o = refused-step m c j e in
-        let same : rejoined n part k ≡ k = ap (λ (p : Memory). rejoined n p k) (t .stays (ap still r)) ∙ rejoined-front n k in
+        let same : rejoined n part k ≡ k = ap (λ (p : Memory). rejoined n p k) (t .stays (ap still r ∙ refusal-still c (suc j))) ∙ rejoined-front n k in
         record { answer-is = r ∙ sym (ap (λ (x : Out). x .answer) o); holds = rw same (subst (λ (x : Out). Holds (x .after) k) (sym o) H) }
 
-    begun-beside : (z : Sizes) (l : Lent) → asked (m .sizes) (start z l) ≡ 0 → Told k n (start z l) a part → Beside (start z l)
-    unfolding accepted
-    begun-beside z l e t =
-        let o = passed-step m (start z l) e in
-        let b = begun-holds z l (ap (λ (y : Sizes). asked y (start z l)) (H .sizes-are) ∙ e) t in
+    begun-beside : (s : State) (c : Call) → facts c .begins ≡ some s → asked (m .sizes) c ≡ 0 → Told k n c a part → Beside c
+    begun-beside s c is e t =
+        let o = passed-step m c e ∙ begins-so m s c is in
+        let b = begun-holds s c is (ap (λ (y : Sizes). asked y c) (H .sizes-are) ∙ e) t in
         record {
           answer-is = b .0 ∙ sym (ap (λ (x : Out). x .answer) o);
-          holds = subst (λ (x : Out). Holds (x .after) (rejoined n part k)) (sym o) (subst (λ (ram : List ℕ). Holds (begun z ram) (rejoined n part k)) (H .ram-is) (b .1));
+          holds = subst (λ (x : Out). Holds (x .after) (rejoined n part k)) (sym o) (subst (λ (ram : List ℕ). Holds (withRam s ram) (rejoined n part k)) (H .ram-is) (b .1));
         }
 
     -- an honest part follows the machine whose RAM is cut alike
@@ -91,22 +96,36 @@ module _ (k : Memory) (n : Lent) (a : Answer) (part : Memory) where
     enough-ram : Roomy (m .sizes) (front n k) → m .sizes .frames * m .sizes .page ≤ n .ram
     enough-ram r = omega (arith, length-take (n .ram) (k .ram), r .ram)
 
+    -- the calls that are lent the RAM
+    lent-ram : (c : Call) → uses c .ram ≡ true → Roomy (m .sizes) (front n k) → n .ram ≤ length (k .ram) → SameCut (n .ram) m c
+    lent-ram (start z l) e r h = absurd (false≢true e)
+    lent-ram (page Mark i b l) e r h = absurd (false≢true e)
+    lent-ram (page Drop i b l) e r h = absurd (false≢true e)
+    lent-ram (page Touch i b l) e r h = absurd (false≢true e)
+    lent-ram (page Look i b l) e r h = absurd (false≢true e)
+    lent-ram (page Release i b l) e r h = absurd (false≢true e)
+    lent-ram free e r h = absurd (false≢true e)
+    lent-ram (translate i x l) e r h = absurd (false≢true e)
+    lent-ram (read i x count l) e r h = same-read m (H .sound) (n .ram) (enough-ram r) i x count l
+    lent-ram (write i x vs l) e r h = same-write m (H .sound) (n .ram) (enough-ram r) i x vs (omega (arith, ap length (H .ram-is))) l
+    lent-ram (list i room l) e r h = absurd (false≢true e)
+
+    same-cut : (c : Call) → Roomy (m .sizes) (front n k) → Lends (uses c .ram) (n .ram) (length (k .ram)) → SameCut (n .ram) m c
+    same-cut c r h = go (uses c .ram) refl h
+      where
+        go : (u : Bool) → uses c .ram ≡ u → Lends u (n .ram) (length (k .ram)) → SameCut (n .ram) m c
+        go true e h = lent-ram c e r h
+        go false e h = whole-ram c h
+
     accepted-beside : (c : Call) → asked (m .sizes) c ≡ 0 → Told k n c a part → Beside c
-    accepted-beside (start z l) e t = begun-beside z l e t
-    accepted-beside (mark i b l) e t = honest _ (roomy-part _ _ e t (H .roomy)) tt (whole-ram _ (t .parts .ram)) t
-    accepted-beside (drop i b l) e t = honest _ (roomy-part _ _ e t (H .roomy)) tt (whole-ram _ (t .parts .ram)) t
-    accepted-beside (touch i b l) e t = honest _ (roomy-part _ _ e t (H .roomy)) tt (whole-ram _ (t .parts .ram)) t
-    accepted-beside (look i b l) e t = honest _ (roomy-part _ _ e t (H .roomy)) tt (whole-ram _ (t .parts .ram)) t
-    accepted-beside (release i b l) e t = honest _ (roomy-part _ _ e t (H .roomy)) tt (whole-ram _ (t .parts .ram)) t
-    accepted-beside free e t = honest _ (roomy-part _ _ e t (H .roomy)) tt (whole-ram _ (t .parts .ram)) t
-    accepted-beside (translate i x l) e t = honest _ (roomy-part _ _ e t (H .roomy)) tt (whole-ram _ (t .parts .ram)) t
-    accepted-beside (read i x count l) e t =
-        let r = roomy-part _ _ e t (H .roomy) in
-        honest _ r tt (same-read m (H .sound) (n .ram) (enough-ram r) i x count l) t
-    accepted-beside (write i x vs l) e t =
-        let r = roomy-part _ _ e t (H .roomy) in
-        honest _ r tt (same-write m (H .sound) (n .ram) (enough-ram r) i x vs (omega (arith, ap length (H .ram-is), t .parts .ram)) l) t
-    accepted-beside (list i room l) e t = honest _ (roomy-part _ _ e t (H .roomy)) tt (whole-ram _ (t .parts .ram)) t
+    accepted-beside c e t = go (facts c .begins) refl
+      where
+        go : (o : Option State) → facts c .begins ≡ o → Beside c
+        go (some s) is = begun-beside s c is e t
+        go none is =
+            let sizes-are = ap (sizesBy (m .sizes)) is in
+            let r = rw sizes-are at (roomy-part (m .sizes) c e t (rw sizes-are (H .roomy))) in
+            honest c r (subst (λ (o : Option State). RoomBy o (front n k)) (sym is) tt) (same-cut c r (t .parts .ram)) t
 
     beside : (c : Call) → Told k n c a part → Beside c
     beside c t = go (asked (m .sizes) c) refl

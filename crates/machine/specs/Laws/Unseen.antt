@@ -4,11 +4,15 @@ use mathlib.Core.Bool.{Bool, true, false, cond, _||_}
 use mathlib.Core.Option.{Option, none, some}
 use mathlib.Core.List.{List, [], _∷_}
 use Prim.Native.Nat.{ℕ, zero, suc, _+_}
+use lib.Dec.{leb}
 use lib.ListN.{length, replicate}
 use Rattle.sequence.specs.Lists.{tabulate, length-tabulate}
 use Rattle.machine.specs.declared.Region.{Region}
-use Rattle.machine.specs.Machine.{State, Pair, Page, outside, unmapped, mapped, pageOf, wordsAt, pageOfAddress, spanPages, ramAt, isStart, region, placeOf, startOf, Call, start, mark, drop, touch, look, release, free, translate, read, write, list, asked, Answer, bytes, refused, Out, tell, unlessResident, markAt, dropAt, releaseAt, touchNew, touchPage, touchAt, touchAll, absence, orElse, firstAbsence, spanAbsence, byteAt, readIf, isOutside, anyOutside, isUnmapped, countAbsent, storeIn, stored, withRam, storeAll, spanTouched, spanOutside, spanShort, writeIf, untilStart, records, recordsOf, listIf, accepted, unless, step, answer, after}
-use Rattle.demands.specs.Outside.{blind}
+use Rattle.machine.specs.Machine.{State, Pair, Page, outside, unmapped, mapped, pageOf, wordsAt, placeOf, pageOfAddress, spanPages, ramAt, isStart, region}
+use Rattle.machine.specs.Machine.{Answer, bytes, Out, tell, unlessResident, markAt, dropAt, releaseAt, touchNew, touchPage, touchAt, touchAll}
+use Rattle.machine.specs.Machine.{absence, orElse, firstAbsence, spanAbsence, byteAt, readIf, isOutside, anyOutside, isUnmapped, countAbsent, storeIn, stored}
+use Rattle.machine.specs.Machine.{withRam, storeAll, spanTouched, spanOutside, spanShort, writeIf, writeAt, untilStart, records, recordsOf, listIf}
+use Rattle.machine.specs.Claims.{blind}
 
 -- ---- the parts of a call
 
@@ -65,34 +69,34 @@ pub record Alike (o o′ : Out) : Type 0 where
   pub states : o .after ≡ withRam (o′ .after) (o .after .ram)
 
 module _ (m : State) (ram : List ℕ) where
-  told : (a a′ : Answer) → blind a ≡ blind a′ → Alike (tell (withRam m ram) a) (tell m a′)
-  told a a′ e = record { answers = e; states = refl }
+  pub told-alike : (a a′ : Answer) → blind a ≡ blind a′ → Alike (tell (withRam m ram) a) (tell m a′)
+  told-alike a a′ e = record { answers = e; states = refl }
 
   unless-resident : (p : ℕ) (v : Bool) (xs : List Pair) → Alike (unlessResident (withRam m ram) p v xs) (unlessResident m p v xs)
   unless-resident p v [] = record { answers = refl; states = refl }
-  unless-resident p v (x ∷ xs) = told _ _ refl
+  unless-resident p v (x ∷ xs) = told-alike _ _ refl
 
-  marked : (p : ℕ) (cut : Option ℕ) (v : Bool) → Alike (markAt (withRam m ram) p cut v) (markAt m p cut v)
-  marked p cut true = told _ _ refl
-  marked p none false = record { answers = refl; states = refl }
-  marked p (some a) false = unless-resident p true (region m a)
+  pub mark-alike : (p : ℕ) (cut : Option ℕ) (v : Bool) → Alike (markAt (withRam m ram) p cut v) (markAt m p cut v)
+  mark-alike p cut true = told-alike _ _ refl
+  mark-alike p none false = record { answers = refl; states = refl }
+  mark-alike p (some a) false = unless-resident p true (region m a)
 
-  dropped : (p : ℕ) (v : Bool) → Alike (dropAt (withRam m ram) p v) (dropAt m p v)
-  dropped p false = told _ _ refl
-  dropped p true = unless-resident p false (region m p)
+  pub drop-alike : (p : ℕ) (v : Bool) → Alike (dropAt (withRam m ram) p v) (dropAt m p v)
+  drop-alike p false = told-alike _ _ refl
+  drop-alike p true = unless-resident p false (region m p)
 
   taken : (a p w : ℕ) (pool : List ℕ) → Alike (touchNew (withRam m ram) a p w pool) (touchNew m a p w pool)
-  taken a p w [] = told _ _ refl
+  taken a p w [] = told-alike _ _ refl
   taken a p w (f ∷ rest) = record { answers = refl; states = refl }
 
-  touched : (p w : ℕ) (x : Page) → Alike (touchPage (withRam m ram) p w x) (touchPage m p w x)
-  touched p w outside = told _ _ refl
-  touched p w (unmapped a) = taken a p w (m .pool)
-  touched p w (mapped a f) = told _ _ refl
+  pub touch-alike : (p w : ℕ) (x : Page) → Alike (touchPage (withRam m ram) p w x) (touchPage m p w x)
+  touch-alike p w outside = told-alike _ _ refl
+  touch-alike p w (unmapped a) = taken a p w (m .pool)
+  touch-alike p w (mapped a f) = told-alike _ _ refl
 
-  released : (a : ℕ) (v : Bool) → Alike (releaseAt (withRam m ram) a v) (releaseAt m a v)
-  released a false = told _ _ refl
-  released a true = record { answers = refl; states = refl }
+  pub release-alike : (a : ℕ) (v : Bool) → Alike (releaseAt (withRam m ram) a v) (releaseAt m a v)
+  release-alike a false = told-alike _ _ refl
+  release-alike a true = record { answers = refl; states = refl }
 
   -- as many bytes, whatever they are
   brought : (i x n k : ℕ) → blind (readIf (withRam m ram) i x n k) ≡ blind (readIf m i x n k)
@@ -103,41 +107,31 @@ module _ (m : State) (ram : List ℕ) where
   brought i x n (suc k) = refl
 
   written : (i x : ℕ) (vs : List ℕ) (a b : Bool) → Alike (writeIf (withRam m ram) i x vs a b) (writeIf m i x vs a b)
-  written i x vs true b = told _ _ refl
-  written i x vs false true = told _ _ refl
+  written i x vs true b = told-alike _ _ refl
+  written i x vs false true = told-alike _ _ refl
   written i x vs false false =
       let m₁ = spanTouched m i x (length vs) in
       let e = ap (λ (y : State). storeAll y i x vs) (touched-any ram m (pageOfAddress (m .sizes) i x) (spanPages (m .sizes) x (length vs))) in
       record { answers = refl; states = e ∙ ap (withRam m₁) (sym (ap (λ (y : State). y .ram) e)) }
 
-  did : (c : Call) → Alike (accepted (withRam m ram) c) (accepted m c)
-  unfolding accepted
-  did (start z l) = record { answers = refl; states = refl }
-  did (mark i b l) = let p = placeOf (m .sizes) i b in marked p (startOf m p) (isStart m p)
-  did (drop i b l) = let p = placeOf (m .sizes) i b in dropped p (isStart m p)
-  did (touch i b l) = let p = placeOf (m .sizes) i b in touched p (wordsAt m p) (pageOf m p)
-  did (look i b l) = told _ _ refl
-  did (release i b l) = let a = placeOf (m .sizes) i b in released a (isStart m a)
-  did free = told _ _ refl
-  did (translate i x l) = told _ _ refl
-  did (read i x n l) =
-      told
+  -- the pages of a span are found alike
+  pub read-alike : (i x n : ℕ) → Alike (tell (withRam m ram) (readIf (withRam m ram) i x n (spanAbsence (withRam m ram) i x n))) (tell m (readIf m i x n (spanAbsence m i x n)))
+  read-alike i x n =
+      told-alike
       _
       _
       (ap (λ (k : ℕ). blind (readIf (withRam m ram) i x n k)) (absence-any ram m (pageOfAddress (m .sizes) i x) (spanPages (m .sizes) x n))
       ∙ brought i x n (spanAbsence m i x n))
-  did (write i x vs l) =
+
+  pub write-alike : (i x : ℕ) (vs : List ℕ) → Alike (writeAt (withRam m ram) i x vs) (writeAt m i x vs)
+  write-alike i x vs =
       rw (
         outside-any ram m (pageOfAddress (m .sizes) i x) (spanPages (m .sizes) x (length vs)),
         absent-any ram m (pageOfAddress (m .sizes) i x) (spanPages (m .sizes) x (length vs)),
       )
       (written i x vs (spanOutside m i x (length vs)) (spanShort m i x (length vs)))
-  did (list i room l) = rw (records-any ram m (placeOf (m .sizes) i 0) 0 (m .sizes .pages)) (told _ _ refl)
 
-  pub alike : (c : Call) → Alike (step (withRam m ram) c) (step m c)
-  unfolding step
-  alike c = go (asked (m .sizes) c)
-    where
-      go : (k : ℕ) → Alike (unless k (withRam m ram) (accepted (withRam m ram) c)) (unless k m (accepted m c))
-      go zero = did c
-      go (suc k) = told _ _ refl
+  pub list-alike : (i room : ℕ)
+      → let rs = recordsOf (withRam m ram) i in
+      Alike (tell (withRam m ram) (listIf rs (leb (length rs) room))) (tell m (listIf (recordsOf m i) (leb (length (recordsOf m i)) room)))
+  list-alike i room = rw (records-any ram m (placeOf (m .sizes) i 0) 0 (m .sizes .pages)) (told-alike _ _ refl)
