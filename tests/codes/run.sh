@@ -1,9 +1,9 @@
 #!/usr/bin/env bash
-# Holds crates/codes/stdout to document 01's session, its answers turned into numbers, and to the answers that follow
+# Holds crates/codes_program/stdout to document 01's session, its answers turned into numbers, and to the answers that follow
 # from it by hand.
 set -euo pipefail
 here=$(cd "$(dirname "${BASH_SOURCE[0]}")" && pwd)
-kept=$here/../../crates/codes/stdout
+kept=$here/../../crates/codes_program/stdout
 made=$(mktemp -d)
 trap 'rm -rf "$made"' EXIT
 
@@ -25,7 +25,7 @@ printf '%s \n' "16 0 0" "24 6 0" "24 6 0" "25 1 0" "22 1 0" "23 255 0" "0 0 0" "
 printf '7 7 %s \n%s \n' "104 101 108 108 111 33 0 0 104 101 108 108 111 33 9 9" "5 5 5 0 8 2 5 5 5 5 5 5" >> "$made/stdout"
 
 if ! diff "$made/stdout" "$kept" > "$made/differences"; then
-    echo "codes: crates/codes/stdout is not what document 01 gives (< the document, > the file):" >&2
+    echo "codes: crates/codes_program/stdout is not what document 01 gives (< the document, > the file):" >&2
     head -n 20 "$made/differences" >&2
     exit 1
 fi

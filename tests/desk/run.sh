@@ -54,7 +54,7 @@ make_rt() {
 # An rt for which nothing has changed.
 make_quick_rt() {
     make_rt << 'END'
-echo 'rt: play proved (unchanged since it was last proved)'
+echo 'rt: session_program proved (unchanged since it was last proved)'
 echo 'rt: ok, 1 crates proved'
 END
 }
@@ -81,18 +81,18 @@ crates=$(sed -n 's/^rt: ok, \([0-9]*\) crates proved$/\1/p' target/session.log)
 mkdir -p "$bed/kit" "$bed/target/bin" "$bed/other place"
 chmod 755 "$bed"
 cp -r "$root/session" "$root/tools" "$bed/"
-echo 'play: io' > "$bed/crates.txt"
-make_program "$bed/fake-play" << 'END'
+echo 'session_program: io' > "$bed/crates.txt"
+make_program "$bed/fake-program" << 'END'
 while read -r line; do
     case $line in
     locale) echo "locale ${LC_ALL-}" ;;
-    lost) echo 'play: its output could not be written' >&2; exit ;;
+    lost) echo 'session_program: its output could not be written' >&2; exit ;;
     killed) kill -KILL $$ ;;
     *) echo "played $line" ;;
     esac
 done
 END
-cp "$bed/fake-play" "$bed/target/bin/play"
+cp "$bed/fake-program" "$bed/target/bin/session_program"
 echo one > "$bed/calls"
 cd "$bed"
 PATH=$bed/kit:$PATH
@@ -165,18 +165,18 @@ mv kept target
 
 # no old program
 make_rt << 'END'
-echo 'rt: FAILED: play'
+echo 'rt: FAILED: session_program'
 exit 1
 END
 run ./session calls < /dev/null
-expect "no proof" 1 "" "session: target/bin/play could not be built*$bed/target/session.log*"
-grep -q '^rt: FAILED: play' target/session.log || fail "no proof: the log doesn't say why"
-echo 'echo "rt: play proved (1 s)"' | make_rt
+expect "no proof" 1 "" "session: target/bin/session_program could not be built*$bed/target/session.log*"
+grep -q '^rt: FAILED: session_program' target/session.log || fail "no proof: the log doesn't say why"
+echo 'echo "rt: session_program proved (1 s)"' | make_rt
 run ./session calls < /dev/null
-expect "a log that got half of the words" 1 "" "session: target/bin/play could not be built*"
+expect "a log that got half of the words" 1 "" "session: target/bin/session_program could not be built*"
 echo 'echo "rt: ok, 1 crates proved" && exit 1' | make_rt
 run ./session calls < /dev/null
-expect "a status of rt's" 1 "" "session: target/bin/play could not be built*"
+expect "a status of rt's" 1 "" "session: target/bin/session_program could not be built*"
 mkdir few
 for tool in bash env dirname readlink; do
     ln -s "$(command -v "$tool")" few/
@@ -184,13 +184,13 @@ done
 run env PATH="$bed/few" ./session calls < /dev/null
 expect "no rt" 1 "" "session: the Rattle kit's command rt is not on the PATH: README.md *"
 mkdir target/stamp
-rm target/bin/play
+rm target/bin/session_program
 make_quick_rt
 run ./session calls < /dev/null
-expect "no program" 1 "" "session: target/bin/play could not be built*"
-touch target/stamp/play
+expect "no program" 1 "" "session: target/bin/session_program could not be built*"
+touch target/stamp/session_program
 make_rt << 'END'
-[ -e target/stamp/play ] || cp fake-play target/bin/play
+[ -e target/stamp/session_program ] || cp fake-program target/bin/session_program
 echo 'rt: ok, 1 crates proved'
 END
 run ./session calls < /dev/null
@@ -198,7 +198,7 @@ expect "a program that went" 0 "played one" ""
 
 # how rt is run: in the root, in the C locale, away from the input, and one at a time
 make_rt << 'END'
-[ "$*" = 'check play' ] && [ -e crates.txt ] && [ "$LC_ALL" = C ] && [ -z "$(cat)" ] && mkdir alone || exit 1
+[ "$*" = 'check session_program' ] && [ -e crates.txt ] && [ "$LC_ALL" = C ] && [ -z "$(cat)" ] && mkdir alone || exit 1
 sleep 0.5
 rmdir alone
 echo 'rt: ok, 1 crates proved'
@@ -215,9 +215,9 @@ wait $! || fail "two at once: the other one failed: $(cat first)"
 # the program's end
 make_quick_rt
 run ./session <<< $'one\nlost\ntwo'
-expect "answers lost" 1 "played one" $'play: its output could not be written\nsession: answers are lost: *'
+expect "answers lost" 1 "played one" $'session_program: its output could not be written\nsession: answers are lost: *'
 run ./session <<< $'one\nkilled\ntwo'
-expect "a program killed" 1 "played one" "session: something ended target/bin/play, with status 137: *"
+expect "a program killed" 1 "played one" "session: something ended target/bin/session_program, with status 137: *"
 run bash -c './session calls < /dev/null >&-'
 expect "a closed output" 1 "" "session: standard output is closed*"
 run bash -c 'yes | ./session | head -n 1; exit "${PIPESTATUS[1]}"'
@@ -255,18 +255,19 @@ END
 run "$here/terminal.py" started '\x03' -- ./shell
 expect "Ctrl-C while it proves" 130 $'started\r\n^C' ""
 make_slow_rt
-printf '%s\n' '# NAME: uses' 'c1:' 'c2: c1 bytes' 'unneeded: c1' 'play: c3 io libc' 'c3: c2 c1 c4' 'c4: c2' > crates.txt
+printf '%s\n' '# NAME: uses' 'c1:' 'c2: c1 bytes' 'unneeded: c1' 'session_program: c3 io libc' 'c3: c2 c1 c4' 'c4: c2' > crates.txt
 run ./session calls < /dev/null
-expect "progress in a file" 0 "played one" "session: proving play and all that it needs*$bed/target/session.log"$'\n'"session: 1? of 5 crates proved, * s*"
+proving="session: proving session_program and all that it needs*$bed/target/session.log"
+expect "progress in a file" 0 "played one" "$proving"$'\n'"session: 1? of 5 crates proved, * s*"
 [ "$(wc -l < err)" = 3 ] || fail "progress in a file: not a line for ten crates: $(cat err)"
 cp "$root/crates.txt" .
 run "$here/terminal.py" -- ./session calls
 again=$'\r'"session: * of $crates crates proved"
-expect "progress at a terminal" 0 "session: proving play and all that it needs*$bed/target/session.log*$again*$again, the last one c23; * s*played one*" ""
+expect "progress at a terminal" 0 "$proving*$again*$again, the last one c23; * s*played one*" ""
 
 # last, as it needs a program that says so: a full disk
 PATH=$real
 cd "$root"
 limit=600 run bash -c './session tests/session/session.txt > /dev/full'
-expect "a full disk" 1 "" "*play: its output could not be written*"
+expect "a full disk" 1 "" "*session_program: its output could not be written*"
 echo "desk: $cases cases"

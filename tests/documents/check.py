@@ -366,7 +366,8 @@ class Check:
         sessions = [b for b in blocks if b[0][1][0].startswith("start ") and all(len(columns) > 1 for _, columns in b)]
         for block in sessions:
             script = "".join(columns[0] + "\n" for _, columns in block)
-            answers = subprocess.run([os.path.join(ROOT, "target/bin/play")], input=script, capture_output=True, text=True, timeout=60).stdout.splitlines()
+            program = os.path.join(ROOT, "target/bin/session_program")
+            answers = subprocess.run([program], input=script, capture_output=True, text=True, timeout=60).stdout.splitlines()
             for (line, columns), answer in zip(block, answers + [""] * len(block)):
                 if answer != columns[1]:
                     self.tell(document, line, f"{columns[0]}: is answered {answer!r} by the program; mend the session")

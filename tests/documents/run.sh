@@ -94,7 +94,8 @@ fault docs/KERNEL.md '/somewhere/x.c: a path of one machine' '`/somewhere/x.c`'
 fault docs/GUIDE.md '#nothing: there is no such heading' '[Nothing](#nothing)'
 fault docs/GUIDE.md '#nothing: there is no such heading' '[Nothing](KERNEL.md#nothing)'
 quiet docs/GUIDE.md '[How to](#how-to-change-things), [answers](KERNEL.md#answers)'
-quiet docs/GUIDE.md '`target/bin/play`, `crates/*/specs`, `crates/NAME/specs`, `promise/specs/Did.antt`, `Did.antt`, [plot](measurements/copies.svg)'
+quiet docs/GUIDE.md '`target/bin/session_program`, `crates/*/specs`, `crates/NAME/specs`, `promise/specs/Did.antt`'
+quiet docs/GUIDE.md '`Did.antt`, [plot](measurements/copies.svg)'
 
 fault docs/GUIDE.md 'demand-4: no source has this name' 'By `demand-4`.'
 fault docs/DECISIONS.md 'touching::touch_twice: no source' '`touching::touch_twice`'
@@ -111,7 +112,7 @@ fault docs/GUIDE.md 'tests/nothing/run.sh: there is no such program' '    tests/
 fault examples/board/README.md 'examples/board/frames.c day: a command that' '```' 'examples/board/frames.c day'
 quiet README.md '    $ ./session tests/session/session.txt    # a comment' '    bash tests/session/run.sh' '    no/program of ours'
 
-change README.md '/^    play  /d' '^## The crates' 'play: a crate that the list below has not'
+change README.md '/^    session_program  /d' '^## The crates' 'session_program: a crate that the list below has not'
 change README.md '/^    sequence  /p' '^    sequence  ' 'sequence: a crate that the list has twice'
 change README.md 's/^    session   /    lections  /' '^    lections  ' 'lections: no crate of crates.txt'
 change README.md '/^    serving  /{h;d};/^    sequence  /{p;x}' '^    serving  ' 'serving: it uses listing, which stands above it'

@@ -1,4 +1,4 @@
-// Writes the lines that the program `finds` must write. It plays the same calls on a plain set of
+// Writes the lines that the program `finds_program` must write. It plays the same calls on a plain set of
 // places and works from document 01's definitions: no layers, no words of bits.
 use std::collections::BTreeSet;
 use std::io::{BufWriter, StdoutLock, Write};

@@ -1,5 +1,5 @@
 // Scripts whose answers were found by hand, for scripts.rs: document 01 and the rules of a line, as
-// an adversary would read them. They hold the independent program to the rules, and so `play` too.
+// an adversary would read them. They hold the independent program to the rules, and so `session_program` too.
 use crate::traffic::{Sizes, MOST};
 
 // A line and its answer.

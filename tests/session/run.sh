@@ -1,11 +1,11 @@
 #!/usr/bin/env bash
-# Plays the scripts of scripts.rs on the program play and on session.rs, the plain machine, and holds their answers to each
-# other byte for byte. `run.sh PROGRAM` tries another program than target/bin/play.
+# Plays the scripts of scripts.rs on the program session_program and on session.rs, the plain machine, and holds their answers to each
+# other byte for byte. `run.sh PROGRAM` tries another program than target/bin/session_program.
 set -euo pipefail
 # bytes, not letters: the scripts aren't all text
 export LC_ALL=C
 here=$(cd "$(dirname "${BASH_SOURCE[0]}")" && pwd)
-play=${1:-$here/../../target/bin/play}
+program=${1:-$here/../../target/bin/session_program}
 made=$(mktemp -d)
 trap 'rm -rf "$made"' EXIT
 
@@ -56,8 +56,8 @@ count() {
     grep -cxE "$1" "$made/answers" || true
 }
 
-[ -x "$play" ] || fail "there is no program ${play#"$here/../../"}; rt check play builds it"
-mkdir "$made/scripts" "$made/play" "$made/independent"
+[ -x "$program" ] || fail "there is no program ${program#"$here/../../"}; rt check session_program builds it"
+mkdir "$made/scripts" "$made/program" "$made/independent"
 rustc -O --edition 2021 -o "$made/session" "$here/session.rs"
 rustc -O --edition 2021 -o "$made/write-scripts" "$here/scripts.rs"
 "$made/write-scripts" "$made/scripts"
@@ -70,17 +70,17 @@ for script in "$made"/scripts/*.txt; do
     name=${script##*/}
     name=${name%.txt}
     answers "$name" independent "$made/session"
-    answers "$name" play "$play"
+    answers "$name" program "$program"
     if [ -e "$made/scripts/$name.out" ]; then
         hold "$name" independent "$made/independent/$name.txt" "by hand" "$made/scripts/$name.out"
     fi
-    hold "$name" play "$made/play/$name.txt" independent "$made/independent/$name.txt"
+    hold "$name" program "$made/program/$name.txt" independent "$made/independent/$name.txt"
     scripts=$((scripts + 1))
 done
 
 # An input that comes in small pieces has the same answers.
 for name in session-1 corners-1 malformed-1 long-1; do
-    dd bs=7 status=none < "$made/scripts/$name.txt" | timeout 20 "$play" > "$made/pieces" || true
+    dd bs=7 status=none < "$made/scripts/$name.txt" | timeout 20 "$program" > "$made/pieces" || true
     hold "$name" "in pieces" "$made/pieces" independent "$made/independent/$name.txt"
 done
 

@@ -1,4 +1,4 @@
-// The session program of document 01, which says what the program `play` must answer: one line for
+// The session program of document 01, which says what the program `session_program` must answer: one line for
 // each line of a script. Written from the document alone, whose words stand in quotation marks; it
 // plays the calls on the plain machine, ../plain/plain.rs, and knows no table and no layer.
 use std::io::{BufRead, BufReader, BufWriter, Result, Write};

@@ -1,9 +1,9 @@
 #!/usr/bin/env bash
-# Measures the program play against session.rs on one script of 1,000,000 lines: both in turn, several times, and the ratio of
-# their best times. `speed.sh PROGRAM` tries another program than target/bin/play. No part of the gate.
+# Measures session_program against session.rs on one script of 1,000,000 lines: both in turn, several times, and the ratio of
+# their best times. `speed.sh PROGRAM` tries another program than target/bin/session_program. No part of the gate.
 set -euo pipefail
 here=$(cd "$(dirname "${BASH_SOURCE[0]}")" && pwd)
-play=${1:-$here/../../target/bin/play}
+program=${1:-$here/../../target/bin/session_program}
 rounds=7
 made=$(mktemp -d)
 trap 'rm -rf "$made"' EXIT
@@ -24,23 +24,23 @@ least() {
     printf '%s\n' "$@" | sort -n | head -n 1
 }
 
-[ -x "$play" ] || fail "there is no program ${play#"$here/../../"}; rt check play builds it"
+[ -x "$program" ] || fail "there is no program ${program#"$here/../../"}; rt check session_program builds it"
 rustc -O --edition 2021 -o "$made/session" "$here/session.rs"
 rustc -O --edition 2021 -o "$made/write-scripts" "$here/scripts.rs"
 "$made/write-scripts" --million "$made/million.txt"
 
 # A time counts only for the right answers.
 "$made/session" < "$made/million.txt" > "$made/independent"
-"$play" < "$made/million.txt" > "$made/play"
-cmp "$made/independent" "$made/play" || fail "the answers differ"
+"$program" < "$made/million.txt" > "$made/program"
+cmp "$made/independent" "$made/program" || fail "the answers differ"
 
-playing=()
+ours=()
 plain=()
 for ((k = 0; k < rounds; k++)); do
-    playing+=("$(micros "$play")")
+    ours+=("$(micros "$program")")
     plain+=("$(micros "$made/session")")
 done
-a=$(least "${playing[@]}")
+a=$(least "${ours[@]}")
 b=$(least "${plain[@]}")
-echo "session: $(wc -l < "$made/million.txt") lines; play ${playing[*]}, independent ${plain[*]} microseconds"
-echo "session: best of $rounds: play $a, independent $b; play / independent = $((a / b)).$(printf '%03d' $((a % b * 1000 / b)))"
+echo "session: $(wc -l < "$made/million.txt") lines; program ${ours[*]}, independent ${plain[*]} microseconds"
+echo "session: best of $rounds: program $a, independent $b; program / independent = $((a / b)).$(printf '%03d' $((a % b * 1000 / b)))"

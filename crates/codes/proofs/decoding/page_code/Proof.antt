@@ -1,0 +1,37 @@
+-- The tests are those of `pageCode`, in its order.
+use Rattle.sequence.specs.Tests.{failed, held}
+use Rattle.codes.proofs.Tested.{small}
+use borrow.Author.Needs.{needs}
+use Rattle.codes.proofs.decoding.page_code.Statement.{statement}
+use Rattle.codes.proofs.decoding.page_code.Tie as tie
+
+returns : tie.Need-returns
+returns c = rw (failed (c .before .is-small .ensures) (c .if1 .taken))
+
+returns-2 : tie.Need-returns-2
+returns-2 c = rw (held (c .before .before .before .is-small .ensures) (c .before .before .if1 .left), failed (c .before .is-small2 .ensures) (c .if2 .taken))
+
+cast-page-request : tie.Need-cast-page-request
+cast-page-request c = small (c .before .before .before .is-small .ensures) (c .before .before .if1 .left)
+
+cast-page-request-2 : tie.Need-cast-page-request-2
+cast-page-request-2 c = small (c .before .is-small2 .ensures) (c .if2 .left)
+
+returns-3 : tie.Need-returns-3
+returns-3 c =
+    let here = c .before .before in
+    rw (held (here .before .before .before .is-small .ensures) (here .before .before .if1 .left), held (here .before .is-small2 .ensures) (here .if2 .left), c .before .page-request .ensures, c .no-parts .ensures)
+
+pub page-code-spec : {M : Type 1} → statement M
+page-code-spec =
+    tie.close
+    (tie.spec
+    (λ c κs. search needs)
+    returns
+    (λ c κs. search needs)
+    returns-2
+    cast-page-request
+    cast-page-request-2
+    (λ c κs. search needs)
+    (λ c κs. search needs)
+    returns-3)

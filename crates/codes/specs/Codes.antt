@@ -1,0 +1,84 @@
+-- Calls and answers as numbers: five for a call, three for an answer.
+use mathlib.Core.Bool.{Bool, cond, _&&_}
+use mathlib.Core.List.{List, [], _∷_}
+use Prim.Native.Nat.{ℕ, _+_, _-_, _*_, _^_}
+use lib.Dec.{eqb, leb, ltb}
+use lib.ListN.{getD}
+use Rattle.serving.specs.declared.Request.{Request}
+use Rattle.serving.specs.declared.Request.the-variants as request-is
+use Rattle.codes.specs.declared.Parts.{Parts}
+use Rattle.codes.specs.declared.Words.{Words}
+use Rattle.codes.specs.declared.Code.{Code}
+use Rattle.codes.specs.declared.Code.the-variants.{Call, Unreadable}
+
+-- ---- a call: its kind, then its arguments
+
+-- a number of 32 bits
+abbrev pub fits : ℕ → Bool
+fits n = ltb n 4294967296
+
+-- n entries from the first on lie within so many
+abbrev pub inside : ℕ → ℕ → ℕ → Bool
+inside first n whole = leb first whole && leb n (whole - first)
+
+abbrev pub noParts : Parts
+noParts = record { from = 0; to = 0; first = 0; last = 0 }
+
+-- n bytes of the byte buffer from a place on
+abbrev pub byteParts : ℕ → ℕ → Parts
+byteParts from n = record { from = from; to = from + n; first = 0; last = 0 }
+
+-- n numbers of the records from a place on
+abbrev pub recordParts : ℕ → ℕ → Parts
+recordParts first n = record { from = 0; to = 0; first = first; last = first + n }
+
+abbrev pub startCode : ℕ → ℕ → ℕ → ℕ → Code
+startCode s n f p = cond (fits s && fits n && fits f && fits p) (Call (request-is.Start s n f p) noParts) Unreadable
+
+abbrev pub pageRequest : ℕ → ℕ → ℕ → Request
+pageRequest kind i b =
+    cond (eqb kind 2) (request-is.Mark i b)
+    (cond (eqb kind 3) (request-is.Drop i b)
+    (cond (eqb kind 4) (request-is.Touch i b)
+    (cond (eqb kind 5) (request-is.Look i b) (request-is.Release i b))))
+
+abbrev pub pageCode : ℕ → ℕ → ℕ → Code
+pageCode kind i b = cond (fits i && fits b) (Call (pageRequest kind i b) noParts) Unreadable
+
+abbrev pub translateCode : ℕ → ℕ → Code
+translateCode i x = cond (fits i) (Call (request-is.Translate i x) noParts) Unreadable
+
+abbrev pub spanRequest : ℕ → ℕ → ℕ → Request
+spanRequest kind i x = cond (eqb kind 9) (request-is.Read i x) (request-is.Write i x)
+
+abbrev pub spanCode : ℕ → ℕ → ℕ → ℕ → ℕ → ℕ → Code
+spanCode kind i x from n whole = cond (fits i && inside from n whole) (Call (spanRequest kind i x) (byteParts from n)) Unreadable
+
+abbrev pub listCode : ℕ → ℕ → ℕ → ℕ → Code
+listCode i first n whole = cond (fits i && inside first n whole) (Call (request-is.List i) (recordParts first n)) Unreadable
+
+-- 1 start, 2 mark, 3 drop, 4 touch, 5 look, 6 release, 7 free, 8 translate, 9 read, 10 write, 11 list;
+-- given how many bytes and how many numbers of records there are
+unfoldable pub decoded : ℕ → ℕ → ℕ → ℕ → ℕ → ℕ → ℕ → Code
+decoded kind a b c d wholeBytes wholeRecords =
+    cond (eqb kind 1) (startCode a b c d)
+    (cond (leb 2 kind && leb kind 6) (pageCode kind a b)
+    (cond (eqb kind 7) (Call request-is.Free noParts)
+    (cond (eqb kind 8) (translateCode a b)
+    (cond (leb 9 kind && leb kind 10) (spanCode kind a b c d wholeBytes)
+    (cond (eqb kind 11) (listCode a b c wholeRecords) Unreadable)))))
+
+-- code number j of a list
+abbrev pub codeAt : List ℕ → ℕ → ℕ → ℕ → Code
+codeAt codes wholeBytes wholeRecords j =
+    decoded (getD codes (5 * j) 0) (getD codes (5 * j + 1) 0) (getD codes (5 * j + 2) 0) (getD codes (5 * j + 3) 0) (getD codes (5 * j + 4) 0)
+    wholeBytes wholeRecords
+
+-- ---- an answer: three numbers, as `encoded` of crate coding has them
+
+-- where the five numbers are no call
+abbrev pub unreadable : List ℕ
+unreadable = 0 ∷ 0 ∷ 0 ∷ []
+
+abbrev pub wordsOf : Words → List ℕ
+wordsOf w = w .kind ∷ w .value ∷ w .words ∷ []

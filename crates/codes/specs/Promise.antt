@@ -1,0 +1,58 @@
+-- What playing a list of codes promises: demands 2 and 3 of the calls that were made.
+use mathlib.Core.Path.{_≡_}
+use mathlib.Core.List.{List, _∷_}
+use Prim.Native.Nat.{ℕ, _+_, _<_}
+use lib.ListN.{length}
+use Rattle.machine.specs.Machine.{Sizes, State, start, asked, unstarted}
+use Rattle.memory.specs.Memory.{Memory, lengths}
+use Rattle.demands.specs.History.{Event}
+use Rattle.demands.specs.Demands.{machineAt, Demand3}
+use Rattle.serving.specs.Steps.{RoomFor, Stands}
+use Rattle.serving.specs.declared.Request.the-variants as request-is
+use Rattle.codes.specs.declared.Parts.{Parts}
+use Rattle.codes.specs.declared.Code.{Code}
+use Rattle.codes.specs.declared.Code.the-variants.{Call, Unreadable}
+use Rattle.codes.specs.Codes.{codeAt}
+use Rattle.codes.specs.Plays.{Desk, Played, plays, Turns}
+
+-- ---- "The memory is long enough for the accepted start's sizes"
+
+abbrev pub RoomIn : Code → Memory → Type 0
+RoomIn Unreadable k = Unit {0}
+RoomIn (Call q p) k = RoomFor q k
+
+-- of n codes from number j on
+abbrev pub Rooms : List ℕ → ℕ → ℕ → ℕ → ℕ → Memory → Type 0
+Rooms codes wholeBytes wholeRecords j n k = (i : ℕ) → i < n → RoomIn (codeAt codes wholeBytes wholeRecords (j + i)) k
+
+-- ---- the promise
+
+module _ (codes : List ℕ) (n : ℕ) (k : Memory) (d : Desk) where
+  abbrev wholeBytes : ℕ
+  wholeBytes = length (d .bytes)
+
+  abbrev wholeRecords : ℕ
+  wholeRecords = length (d .records)
+
+  -- what the plain machine would leave
+  abbrev pub byMachine : State → Played
+  byMachine m = plays codes wholeBytes wholeRecords (lengths k) 0 n (record { state = m; desk = d })
+
+  -- the first code is a start of these sizes, and it passes its checks
+  pub record StartsFirst (z : Sizes) : Type 0 where
+    pub some : 0 < n
+    pub parts : Parts
+    pub first : codeAt codes wholeBytes wholeRecords 0 ≡ Call (request-is.Start (z .spaces) (z .pages) (z .frames) (z .page)) parts
+    pub accepted : asked z (start z (lengths k)) ≡ 0
+    pub rooms : Rooms codes wholeBytes wholeRecords 0 n k
+
+  pub record Plays (k′ : Memory) (d′ : Desk) : Type 0 where
+    -- the calls that were made, in order, with what they answered
+    pub events : List Event
+    pub turns : Turns codes wholeBytes wholeRecords 0 n k d events k′ d′
+    -- "From an accepted start, .. every answer is the plain machine's, whatever the five unprepared tables held"
+    pub demand-2 : (z : Sizes) → StartsFirst z → d′ ≡ byMachine (unstarted (k .ram)) .desk
+    -- and where the memory stands for a machine already, started or not
+    pub honest : (m : State) → Stands m k → Rooms codes wholeBytes wholeRecords 0 n k → (d′ ≡ byMachine m .desk) × Stands (byMachine m .state) k′
+    -- "One claim over every sequence of calls": of the calls after the start
+    pub demand-3 : (z : Sizes) → StartsFirst z → (e : Event) × (es : List Event) × (events ≡ e ∷ es) × Demand3 z k es k′ (machineAt z k es)

@@ -1,0 +1,160 @@
+// Five numbers as a call.
+use crate::Code;
+use crate::Parts;
+use serving::Request;
+ghost use mathlib.Core.Bool.{_&&_};
+ghost use mathlib.Core.Path.{_≡_};
+ghost use Prim.Native.Nat.{_≤_};
+ghost use Rattle.codes.specs.Codes.{fits, inside, noParts, startCode, pageRequest, pageCode, translateCode, spanRequest, spanCode, listCode, decoded};
+
+// Whether it is a number of 32 bits.
+fn is_small(n: u64) -> bool
+    ensures { λ r. ⌜ r ≡ fits n ⌝ }
+{
+    n < 4294967296
+}
+
+fn is_inside(first: usize, n: usize, whole: usize) -> bool
+    ensures { λ r. ⌜ r ≡ inside first n whole ⌝ }
+{
+    if whole < first {
+        return false;
+    }
+    n <= whole - first
+}
+
+fn no_parts() -> Parts
+    ensures { λ r. ⌜ r ≡ noParts ⌝ }
+{
+    Parts {
+        from: 0,
+        to: 0,
+        first: 0,
+        last: 0,
+    }
+}
+
+fn start_code(s: u64, n: u64, f: u64, p: u64) -> Code
+    ensures { λ r. ⌜ r ≡ startCode s n f p ⌝ }
+{
+    if !is_small(s) {
+        return Code::Unreadable;
+    }
+    if !is_small(n) {
+        return Code::Unreadable;
+    }
+    if !is_small(f) {
+        return Code::Unreadable;
+    }
+    if !is_small(p) {
+        return Code::Unreadable;
+    }
+    Code::Call(
+        Request::Start(s as u32, n as u32, f as u32, p as u32),
+        no_parts(),
+    )
+}
+
+fn page_request(kind: u64, i: u32, b: u32) -> Request
+    ensures { λ r. ⌜ r ≡ pageRequest kind i b ⌝ }
+{
+    match kind {
+        2 => Request::Mark(i, b),
+        3 => Request::Drop(i, b),
+        4 => Request::Touch(i, b),
+        5 => Request::Look(i, b),
+        _ => Request::Release(i, b),
+    }
+}
+
+fn page_code(kind: u64, i: u64, b: u64) -> Code
+    ensures { λ r. ⌜ r ≡ pageCode kind i b ⌝ }
+{
+    if !is_small(i) {
+        return Code::Unreadable;
+    }
+    if !is_small(b) {
+        return Code::Unreadable;
+    }
+    Code::Call(page_request(kind, i as u32, b as u32), no_parts())
+}
+
+fn translate_code(i: u64, x: usize) -> Code
+    ensures { λ r. ⌜ r ≡ translateCode i x ⌝ }
+{
+    if !is_small(i) {
+        return Code::Unreadable;
+    }
+    Code::Call(Request::Translate(i as u32, x), no_parts())
+}
+
+fn span_request(kind: u64, i: u32, x: usize) -> Request
+    ensures { λ r. ⌜ r ≡ spanRequest kind i x ⌝ }
+{
+    if kind == 9 {
+        return Request::Read(i, x);
+    }
+    Request::Write(i, x)
+}
+
+fn span_code(kind: u64, i: u64, x: usize, from: usize, n: usize, whole: usize) -> Code
+    ensures { λ r. ⌜ r ≡ spanCode kind i x from n whole ⌝ }
+{
+    if !is_small(i) {
+        return Code::Unreadable;
+    }
+    if !is_inside(from, n, whole) {
+        return Code::Unreadable;
+    }
+    Code::Call(
+        span_request(kind, i as u32, x),
+        Parts {
+            from,
+            to: from + n,
+            first: 0,
+            last: 0,
+        },
+    )
+}
+
+fn list_code(i: u64, first: usize, n: usize, whole: usize) -> Code
+    ensures { λ r. ⌜ r ≡ listCode i first n whole ⌝ }
+{
+    if !is_small(i) {
+        return Code::Unreadable;
+    }
+    if !is_inside(first, n, whole) {
+        return Code::Unreadable;
+    }
+    Code::Call(
+        Request::List(i as u32),
+        Parts {
+            from: 0,
+            to: 0,
+            first,
+            last: first + n,
+        },
+    )
+}
+
+pub(crate) fn decode(
+    kind: u64,
+    a: u64,
+    b: u64,
+    c: u64,
+    d: u64,
+    bytes: usize,
+    records: usize,
+) -> Code
+    ensures { λ r. ⌜ r ≡ decoded kind a b c d bytes records ⌝ }
+{
+    match kind {
+        1 => start_code(a, b, c, d),
+        2..=6 => page_code(kind, a, b),
+        7 => Code::Call(Request::Free, no_parts()),
+        8 => translate_code(a, b as usize),
+        9..=10 => span_code(kind, a, b as usize, c as usize, d as usize, bytes),
+        11 => list_code(a, b as usize, c as usize, records),
+        _ => Code::Unreadable,
+    }
+}

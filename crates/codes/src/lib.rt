@@ -1,0 +1,162 @@
+// Plays a lent list of encoded calls on lent memory: five numbers a call, three an answer.
+mod decoding;
+mod encoding;
+
+use memory::Head;
+use serving::Request;
+use serving::serve;
+ghost use mathlib.Core.Path.{_≡_};
+ghost use Prim.Native.Nat.{min, _/_};
+ghost use lib.ListN.{length};
+ghost use Rattle.memory.specs.Memory.{memory};
+ghost use Rattle.codes.specs.Codes.{decoded};
+ghost use Rattle.codes.specs.Plays.{PlayedOne};
+ghost use Rattle.codes.specs.Promise.{Plays};
+
+// The part of the byte buffer and the part of the records that a call is lent.
+pub struct Parts {
+    pub from: usize,
+    pub to: usize,
+    pub first: usize,
+    pub last: usize,
+}
+
+// What five numbers say.
+pub enum Code {
+    Call(Request, Parts),
+    Unreadable,
+}
+
+// An answer as numbers: its kind or the number of its refusal, a value, the index words.
+pub struct Words {
+    pub kind: u64,
+    pub value: u64,
+    pub words: u64,
+}
+
+// Plays the call that five numbers are, if they are one.
+fn play_one(
+    head: Head,
+    kind: u64,
+    a: u64,
+    b: u64,
+    c: u64,
+    d: u64,
+    reply: &mut [u64],
+    bytes: &mut [u8],
+    records: &mut [u32],
+    index: &mut [u64],
+    count: &mut [u32],
+    table: &mut [u32],
+    helper: &mut [u32],
+    stack: &mut [u32],
+    cache: &mut [u32],
+    link: &mut [u32],
+    ram: &mut [u8],
+) -> Head
+    requires { ⌜ length (now reply) ≡ 3 ⌝ }
+    ensures { λ r. ⌜
+        PlayedOne (decoded kind a b c d (length (now (bytes .entry))) (length (now (records .entry))))
+        (memory head (now (index .entry)) (now (count .entry)) (now (table .entry)) (now (helper .entry)) (now (stack .entry)) (now (cache .entry)) (now (link .entry)) (now (ram .entry)))
+        (now (bytes .entry)) (now (records .entry))
+        (memory r (now (index .exit)) (now (count .exit)) (now (table .exit)) (now (helper .exit)) (now (stack .exit)) (now (cache .exit)) (now (link .exit)) (now (ram .exit)))
+        (now (reply .exit)) (now (bytes .exit)) (now (records .exit)) ⌝ }
+{
+    let code = decoding::decode(kind, a, b, c, d, bytes.len(), records.len());
+    let Code::Call(request, parts) = code else {
+        encoding::put(
+            reply,
+            Words {
+                kind: 0,
+                value: 0,
+                words: 0,
+            },
+        );
+        return head;
+    };
+    let from = parts.from;
+    let to = parts.to;
+    let first = parts.first;
+    let last = parts.last;
+    let out = serve(
+        head,
+        request,
+        &mut bytes[from..to],
+        &mut records[first..last],
+        index,
+        count,
+        table,
+        helper,
+        stack,
+        cache,
+        link,
+        ram,
+    );
+    let next = out.head;
+    let told = out.reply;
+    encoding::put(reply, encoding::encode(told, to - from));
+    next
+}
+
+fn least(a: usize, b: usize) -> usize
+    ensures { λ r. ⌜ r ≡ min a b ⌝ }
+{
+    if a < b {
+        return a;
+    }
+    b
+}
+
+// Plays as many calls as there are codes and room for replies.
+pub fn play(
+    head: Head,
+    codes: &[u64],
+    replies: &mut [u64],
+    bytes: &mut [u8],
+    records: &mut [u32],
+    index: &mut [u64],
+    count: &mut [u32],
+    table: &mut [u32],
+    helper: &mut [u32],
+    stack: &mut [u32],
+    cache: &mut [u32],
+    link: &mut [u32],
+    ram: &mut [u8],
+) -> Head
+    ensures { λ r. ⌜
+        Plays (now (codes .entry)) (min (length (now (codes .entry)) / 5) (length (now (replies .entry)) / 3))
+        (memory head (now (index .entry)) (now (count .entry)) (now (table .entry)) (now (helper .entry)) (now (stack .entry)) (now (cache .entry)) (now (link .entry)) (now (ram .entry)))
+        (record { replies = now (replies .entry); bytes = now (bytes .entry); records = now (records .entry) })
+        (memory r (now (index .exit)) (now (count .exit)) (now (table .exit)) (now (helper .exit)) (now (stack .exit)) (now (cache .exit)) (now (link .exit)) (now (ram .exit)))
+        (record { replies = now (replies .exit); bytes = now (bytes .exit); records = now (records .exit) }) ⌝ }
+{
+    let n = least(codes.len() / 5, replies.len() / 3);
+    let mut next = head;
+    let mut j = 0;
+    while j < n {
+        let from = 5 * j;
+        let to = 3 * j;
+        let end = to + 3;
+        next = play_one(
+            next,
+            codes[from],
+            codes[from + 1],
+            codes[from + 2],
+            codes[from + 3],
+            codes[from + 4],
+            &mut replies[to..end],
+            bytes,
+            records,
+            index,
+            count,
+            table,
+            helper,
+            stack,
+            cache,
+            link,
+            ram,
+        );
+        j += 1;
+    }
+    next
+}
