@@ -43,7 +43,7 @@ fn lent(index: usize, count: usize) -> Lengths
 
 // A refused start gives the head back as it was.
 fn not_started(head: Head, no: u32) -> StartOut
-    ensures { λ r. ⌜ (r .head ≡ head) × (doneSays (r .answer) ≡ machine.refused no 0) ⌝ }
+    ensures { λ r. ⌜ (r .head ≡ head) × (doneSays (r .answer) ≡ machine.refused no) ⌝ }
 {
     StartOut {
         head,

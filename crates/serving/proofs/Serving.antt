@@ -25,11 +25,12 @@ use Rattle.machine.specs.declared.Listed.the-variants as listed-is
 use Rattle.memory.specs.Memory.{Memory}
 use Rattle.promise.specs.Did.{Did}
 use Rattle.promise.specs.Filled.{ReadDid, recordsIn, recordsFilled, ListDid}
-use Rattle.serving.specs.declared.Request.{Request}
-use Rattle.serving.specs.declared.Request.the-variants as request-is
-use Rattle.serving.specs.declared.Reply.{Reply}
-use Rattle.serving.specs.Requests.{requested, replied, bytesInto, recordsInto, Serves}
-use Rattle.serving.specs.Laws.{records-length, records-numbers}
+use Rattle.requests.specs.declared.Request.{Request}
+use Rattle.requests.specs.declared.Request.the-variants as request-is
+use Rattle.requests.specs.declared.Reply.{Reply}
+use Rattle.requests.specs.Requests.{requested, replied, bytesInto, recordsInto}
+use Rattle.serving.specs.Serves.{Serves}
+use Rattle.requests.specs.Laws.{records-length, records-numbers}
 
 -- ---- the calls that fill nothing of their caller's
 

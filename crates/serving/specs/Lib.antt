@@ -1,3 +1,2 @@
-pub mod Requests
-pub mod Laws
+pub mod Serves
 pub mod Steps

@@ -7,19 +7,19 @@ use Prim.Native.Nat.{ℕ, zero, suc, _≤_}
 use native.Mathlib.Omega.{arith}
 use lib.ListN.{length, drop}
 use lib.Seq.{take-length, drop-length}
-use Rattle.machine.specs.Machine.{Sizes, sizesOk, State, Lent, Call, start, uses, asked, accepted, Answer, done, refused, answer, after, Out, begun, unstarted, step}
+use Rattle.machine.specs.Machine.{Sizes, sizesOk, State, Lent, Call, start, uses, asked, accepted, Answer, done, refusal, answer, after, Out, begun, unstarted, step}
 use Rattle.memory.specs.Memory.{Memory, memory, sizesOf, lengths}
 use Rattle.promise.specs.Holds.{Holds}
 use Rattle.promise.specs.Did.{Did, Exactly, still, Follows, Room}
-use Rattle.laws.specs.Refusals.{passed-step, refused-step}
+use Rattle.laws.specs.Refusals.{passed-step, refused-step, refusal-still}
 use Rattle.demands.specs.History.{front, rejoined, Lends, Carries, Step}
 use Rattle.demands.specs.Laws.Step.{step-follows}
 use Rattle.demands.specs.Laws.Run.{accepted-asks}
-use Rattle.serving.specs.Requests.{requested}
-use Rattle.serving.specs.declared.Request.{Request}
-use Rattle.serving.specs.declared.Request.the-variants.{Start, Mark, Drop, Touch, Look, Release, Free, Translate, Read, Write, List as Listing}
+use Rattle.requests.specs.Requests.{requested}
+use Rattle.requests.specs.declared.Request.{Request}
+use Rattle.requests.specs.declared.Request.the-variants.{Start, Page, Free, Translate, Read, Write, List as Listing}
 
--- "The memory is long enough for the accepted start's sizes": a request that passes the checks for 1 to 3 finds room; said of start, the others ask for none
+-- "The memory is long enough for the accepted start's sizes": a request that passes the checks for 1 to 3 finds room
 abbrev pub RoomFor : Request → Memory → Type 0
 RoomFor q k = (bytes records : List ℕ) → asked (sizesOf (k .head)) (requested q bytes records (lengths k)) ≡ 0 → Room (requested q bytes records (lengths k)) k
 
@@ -45,11 +45,7 @@ lends-whole false n = refl
 
 carries-own : (q : Request) (bytes records : List ℕ) (l : Lent) → Carries (requested q bytes records l) l
 carries-own (Start s n f p) bytes records l = refl
-carries-own (Mark i b) bytes records l = refl
-carries-own (Drop i b) bytes records l = refl
-carries-own (Touch i b) bytes records l = refl
-carries-own (Look i b) bytes records l = refl
-carries-own (Release i b) bytes records l = refl
+carries-own (Page p i b) bytes records l = refl
 carries-own Free bytes records l = tt
 carries-own (Translate i x) bytes records l = refl
 carries-own (Read i x) bytes records l = refl
@@ -103,11 +99,11 @@ module _ (m : State) (k : Memory) (a : Answer) (k₁ : Memory) (u : Unstarted m 
   -- a refusal changes nothing
   refused-alike : (c : Lent → Call) (j : ℕ) → asked (sizesOf (k .head)) (c (lengths k)) ≡ suc j → asked (m .sizes) (c (lengths k)) ≡ suc j → Did c k a k₁ → FollowsMachine m (c (lengths k)) a k₁
   refused-alike c j e e′ d =
-      let r : a ≡ refused (suc j) 0 = subst (λ (i : ℕ). Exactly i (c (lengths k)) a) e (d .asks) in
+      let r : a ≡ refusal (c (lengths k)) (suc j) = subst (λ (i : ℕ). Exactly i (c (lengths k)) a) e (d .asks) in
       let o = refused-step m (c (lengths k)) j e′ in
       record {
         answer-is = r ∙ sym (ap (λ (x : Out). x .answer) o);
-        stands = rw (d .stays (ap still r)) (subst (λ (x : Out). Stands (x .after) k) (sym o) (inr u));
+        stands = rw (d .stays (ap still r ∙ refusal-still (c (lengths k)) (suc j))) (subst (λ (x : Out). Stands (x .after) k) (sym o) (inr u));
       }
 
   same-none : m .sizes .spaces ≡ 0
@@ -126,7 +122,7 @@ module _ (m : State) (k : Memory) (a : Answer) (k₁ : Memory) (u : Unstarted m 
       let b = d .begins e in
       record {
         answer-is = b .0 ∙ sym (ap (λ (x : Out). x .answer) o);
-        stands = subst (λ (x : Out). Stands (x .after) k₁) (sym o) (inl (subst (λ (ram : List ℕ). Holds (begun z ram) k₁) (sym (ap (λ (x : State). x .ram) (u .state-is))) (b .1 .holds room)));
+        stands = subst (λ (x : Out). Stands (x .after) k₁) (sym o) (inl (subst (λ (ram : List ℕ). Holds (begun z ram) k₁) (sym (ap (λ (x : State). x .ram) (u .state-is))) (b .1 room)));
       }
 
   start-served : (z : Sizes) → (asked (sizesOf (k .head)) (start z (lengths k)) ≡ 0 → Room (start z (lengths k)) k) → Did (start z) k a k₁ → FollowsMachine m (start z (lengths k)) a k₁
@@ -140,11 +136,7 @@ module _ (m : State) (k : Memory) (a : Answer) (k₁ : Memory) (u : Unstarted m 
   unstarted-served : (q : Request) (bytes records : List ℕ) → RoomFor q k → Did (requested q bytes records) k a k₁ → FollowsMachine m (requested q bytes records (lengths k)) a k₁
   unfolding asked
   unstarted-served (Start s n f p) bytes records room d = start-served (record { spaces = s; pages = n; frames = f; page = p }) (room bytes records) d
-  unstarted-served (Mark i b) bytes records room d = refused-first _ (λ z e. rw e) d
-  unstarted-served (Drop i b) bytes records room d = refused-first _ (λ z e. rw e) d
-  unstarted-served (Touch i b) bytes records room d = refused-first _ (λ z e. rw e) d
-  unstarted-served (Look i b) bytes records room d = refused-first _ (λ z e. rw e) d
-  unstarted-served (Release i b) bytes records room d = refused-first _ (λ z e. rw e) d
+  unstarted-served (Page p i b) bytes records room d = refused-first _ (λ z e. rw e) d
   unstarted-served Free bytes records room d = refused-first _ (λ z e. rw e) d
   unstarted-served (Translate i x) bytes records room d = refused-first _ (λ z e. rw e) d
   unstarted-served (Read i x) bytes records room d = refused-first _ (λ z e. rw e) d
