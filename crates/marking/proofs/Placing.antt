@@ -14,12 +14,12 @@ use Rattle.index.specs.declared.Membership.{Membership}
 use Rattle.index.specs.declared.Membership.the-variants.{Member, Absent, Refused}
 use Rattle.machine.specs.Machine.{Answer, refused}
 use Rattle.memory.specs.Memory.{Memory, at}
-use Rattle.laws.specs.Models.{withIndex, PutsUnless, AsksStart, MarkIf, DropIf}
-use Rattle.marking.specs.Steps.{changeAnswer, CutPages, Around, MarkedAt, DroppedAt}
+use Rattle.laws.specs.Models.{changeSays, withIndex, PutsUnless, AsksStart, MarkIf, DropIf}
+use Rattle.marking.specs.Steps.{CutPages, Around, MarkedAt, DroppedAt}
 
 -- ---- the region that a start would cut
 
-module _ (t p : ℕ) (ws : List ℕ) (r : Found) (sought : Sought t p ws (index.foundSays r)) where
+module _ (t p : ℕ) (ws : List ℕ) (r : Found) (sought : Sought t p ws r) where
   pub found-low : index.check (length ws) t p ≡ 0 → (a c : ℕ) → r ≡ found-is.Start a c → a ≤ p
   found-low pass a c e = (rw (pass, e) at (sought .any)) .0
 
@@ -47,20 +47,20 @@ module _ (v : Bool) (t p : ℕ) (ws count : List ℕ) where
   way-full zero full h table helper stack cache link ram et = absurd (full refl)
   way-full (suc n) full h table helper stack cache link ram et = record { answer-is = refl; same = refl }
 
-  way-clear : (n : ℕ) (d : Change) (a : Answer) (ws′ : List ℕ) → n ≡ 0 → Put v t p ws (index.changeSays d) ws′ → a ≡ changeAnswer d → Unless n a ws′
+  way-clear : (n : ℕ) (d : Change) (a : Answer) (ws′ : List ℕ) → n ≡ 0 → Put v t p ws d ws′ → a ≡ changeSays d → Unless n a ws′
   way-clear n d a ws′ clear put answer h table helper stack cache link ram et =
-      rw clear (record { change = index.changeSays d; words = ws′; put = rw et put; answer-is = answer; after-is = refl })
+      rw clear (record { change = d; words = ws′; put = rw et put; answer-is = answer; after-is = refl })
 
 -- ---- mark and drop, from whether the place is a start
 
-module _ (t p : ℕ) (ws count : List ℕ) (r : Membership) (asked : Asked t p ws (index.membershipSays r)) where
-  asks : (then : Memory → index.Answer → Type 0) → Around t ws count (λ k. then k (index.membershipSays r)) → Around t ws count (λ k. AsksStart p k (then k))
+module _ (t p : ℕ) (ws count : List ℕ) (r : Membership) (asked : Asked t p ws r) where
+  asks : (then : Memory → Membership → Type 0) → Around t ws count (λ k. then k r) → Around t ws count (λ k. AsksStart p k (then k))
   asks then d h table helper stack cache link ram et =
-      record { is-set = index.membershipSays r; set-asked = rw et asked; done-then = d h table helper stack cache link ram et }
+      record { is-set = r; set-asked = rw et asked; done-then = d h table helper stack cache link ram et }
 
   module _ (lo : ℕ) where
     -- what a mark does on each answer of the index
-    abbrev Marks : Answer → List ℕ → Memory → index.Answer → Type 0
+    abbrev Marks : Answer → List ℕ → Memory → Membership → Type 0
     Marks a ws′ k s = MarkIf s p lo k a (withIndex k ws′)
 
     pub mark-member : r ≡ Member → MarkedAt t lo p ws count (refused 6) ws
@@ -80,11 +80,11 @@ module _ (t p : ℕ) (ws count : List ℕ) (r : Membership) (asked : Asked t p w
       pub mark-full : (n ≡ 0 → ⊥) → MarkedAt t lo p ws count (refused 7) ws
       mark-full full = mark-then _ _ (way-full true t p ws count n full)
 
-      pub mark-put : (d : Change) (a : Answer) (ws′ : List ℕ) → n ≡ 0 → Put true t p ws (index.changeSays d) ws′ → a ≡ changeAnswer d → MarkedAt t lo p ws count a ws′
+      pub mark-put : (d : Change) (a : Answer) (ws′ : List ℕ) → n ≡ 0 → Put true t p ws d ws′ → a ≡ changeSays d → MarkedAt t lo p ws count a ws′
       mark-put d a ws′ clear put answer = mark-then _ _ (way-clear true t p ws count n d a ws′ clear put answer)
 
   -- what a drop does on each answer of the index
-  abbrev Drops : Answer → List ℕ → Memory → index.Answer → Type 0
+  abbrev Drops : Answer → List ℕ → Memory → Membership → Type 0
   Drops a ws′ k s = DropIf s p k a (withIndex k ws′)
 
   pub drop-absent : r ≡ Absent → DroppedAt t p ws count (refused 5) ws
@@ -100,6 +100,6 @@ module _ (t p : ℕ) (ws count : List ℕ) (r : Membership) (asked : Asked t p w
     pub drop-full : (at count p ≡ 0 → ⊥) → DroppedAt t p ws count (refused 7) ws
     drop-full full = drop-then _ _ (way-full false t p ws count (at count p) full)
 
-    pub drop-put : (d : Change) (a : Answer) (ws′ : List ℕ) → at count p ≡ 0 → Put false t p ws (index.changeSays d) ws′ → a ≡ changeAnswer d
+    pub drop-put : (d : Change) (a : Answer) (ws′ : List ℕ) → at count p ≡ 0 → Put false t p ws d ws′ → a ≡ changeSays d
         → DroppedAt t p ws count a ws′
     drop-put d a ws′ clear put answer = drop-then _ _ (way-clear false t p ws count (at count p) d a ws′ clear put answer)

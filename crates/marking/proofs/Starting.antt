@@ -4,7 +4,6 @@ use mathlib.Core.Bool.{true}
 use mathlib.Core.List.{List, _++_}
 use Prim.Native.Nat.{ℕ}
 use lib.ListN.{length, drop, replicate}
-use Rattle.index.specs.Answers as index
 use Rattle.index.specs.Promise.{Prepared}
 use Rattle.index.specs.declared.Change.{Change}
 use Rattle.machine.specs.Machine.{Answer, refused, start, places}
@@ -16,16 +15,16 @@ use Rattle.memory.specs.Memory.{memory, sizesOf}
 use Rattle.memory.specs.declared.Head.{Head}
 use Rattle.memory.specs.declared.Lengths.{Lengths}
 use Rattle.promise.specs.Did.{Did}
-use Rattle.laws.specs.Models.{lentTo, checkOf, startHead}
+use Rattle.laws.specs.Models.{lentTo, checkOf, changeSays, startHead}
 use Rattle.laws.specs.Checking.{checked-no, checked-yes, ready}
 use Rattle.laws.specs.Marking.{start-did}
-use Rattle.marking.specs.Steps.{sizes, changeAnswer, Beginnable, Begins}
+use Rattle.marking.specs.Steps.{sizes, Beginnable, Begins}
 
 pub begins : (next : Head) (t : ℕ) (ws count : List ℕ) (d : Change) (a : Answer) (ws′ count′ : List ℕ) → t ≡ places (sizesOf next)
-    → Prepared t ws (index.changeSays d) ws′ → count′ ≡ replicate t 0 ++ drop t count → a ≡ changeAnswer d → Begins next ws count next a ws′ count′
+    → Prepared t ws d ws′ → count′ ≡ replicate t 0 ++ drop t count → a ≡ changeSays d → Begins next ws count next a ws′ count′
 begins next t ws count d a ws′ count′ et prepared cleared answer h table helper stack cache link ram =
     record {
-      change = index.changeSays d;
+      change = d;
       words = ws′;
       prepared = rw et at prepared;
       answer-is = answer;

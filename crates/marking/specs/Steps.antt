@@ -6,17 +6,14 @@ use Prim.Native.Nat.{ℕ, _≤_, _<_}
 use lib.ListN.{length}
 use Rattle.index.specs.Answers as index
 use Rattle.index.specs.Promise.{Sought}
-use Rattle.index.specs.declared.Change.{Change}
+use Rattle.index.specs.declared.Found.{Found}
 use Rattle.machine.specs.Machine.{Sizes, places, sizesOk, Answer}
 use Rattle.memory.specs.Memory.{Memory, memory, sizesOf}
 use Rattle.memory.specs.declared.Head.{Head}
-use Rattle.laws.specs.Models.{changeSays, cutCount, withIndex, AsksStart, MarkIf, DropIf, Starts}
+use Rattle.laws.specs.Models.{cutCount, withIndex, AsksStart, MarkIf, DropIf, Starts}
 
 abbrev pub sizes : ℕ → ℕ → ℕ → ℕ → Sizes
 sizes s n f p = record { spaces = s; pages = n; frames = f; page = p }
-
-abbrev pub changeAnswer : Change → Answer
-changeAnswer c = changeSays (index.changeSays c)
 
 -- ---- start
 
@@ -41,7 +38,7 @@ pub record Searchable (t p : ℕ) (ws count : List ℕ) : Type 0 where
 
 -- the count of the region that a start at p would cut
 pub record CutPages (t lo p : ℕ) (ws count : List ℕ) (r : ℕ) : Type 0 where
-  pub found : index.Answer
+  pub found : Found
   pub sought : Sought t p ws found
   pub is : r ≡ cutCount lo count found
 

@@ -22,8 +22,8 @@ ghost use Rattle.machine.specs.Machine as machine;
 ghost use Rattle.machine.specs.Answers.{doneSays, freeSays};
 ghost use Rattle.memory.specs.Memory.{memory};
 ghost use Rattle.promise.specs.Did.{Did};
-ghost use Rattle.laws.specs.Models.{lentTo};
-ghost use Rattle.marking.specs.Steps.{sizes, changeAnswer, Beginnable, Begins, Searchable, CutPages, MarkedAt, DroppedAt};
+ghost use Rattle.laws.specs.Models.{lentTo, changeSays};
+ghost use Rattle.marking.specs.Steps.{sizes, Beginnable, Begins, Searchable, CutPages, MarkedAt, DroppedAt};
 
 // The lengths of a call that is lent the index and the resident counts.
 fn lent(index: usize, count: usize) -> Lengths
@@ -65,7 +65,7 @@ fn clear_counts(count: &mut [u32], t: usize)
 
 // What a change of the index answers for the call that made it.
 fn changed(c: Change) -> Done
-    ensures { λ r. ⌜ doneSays r ≡ changeAnswer c ⌝ }
+    ensures { λ r. ⌜ doneSays r ≡ changeSays c ⌝ }
 {
     match c {
         Change::Done => Done::Ok,

@@ -7,7 +7,8 @@ use native.Mathlib.Omega.{arith}
 use borrow.Author.Tests.{ltb-true}
 use lib.Dec.{ltb}
 use lib.ListN.{length}
-use Rattle.index.specs.Answers as answers
+use Rattle.index.specs.declared.Membership.{Membership}
+use Rattle.index.specs.declared.Membership.the-variants as membership-is
 use Rattle.index.specs.Promise.{Asked}
 use Rattle.machine.specs.Machine.{places, placeOf, sizesOk, release, Answer, pages, refused}
 use Rattle.machine.specs.Laws.Sizes.{fit, place-below}
@@ -47,8 +48,8 @@ module _ (h : Head) (i b : ℕ) (index count table stack link : List ℕ) (n : �
   pub cut-refused : (n ≡ 0 → ⊥) → CutOf h i b index count table stack link (cut-is.Refused n)
   cut-refused some = record { any = λ helper cache ram. checking.on-no _ cut-is.Refused _ n checked some }
 
-  pub cut-asked : n ≡ 0 → (s : answers.Answer) (t a : ℕ) (r : Cut) → Asked t a index s → t ≡ places (sizesOf h) → a ≡ placeOf (sizesOf h) i b → r ≡ cutFor s h count table stack t a
-      → CutOf h i b index count table stack link r
+  pub cut-asked : n ≡ 0 → (s : Membership) (t a : ℕ) (r : Cut) → Asked t a index s → t ≡ places (sizesOf h) → a ≡ placeOf (sizesOf h) i b
+      → r ≡ cutFor s h count table stack t a → CutOf h i b index count table stack link r
   cut-asked none s t a r asked et ea is =
       record {
         any = λ helper cache ram. checking.on-yes _ cut-is.Refused _ n r checked none
@@ -68,14 +69,10 @@ module _ (h : Head) (count table stack : List ℕ) (t a₀ a : ℕ) where
   gives-if (suc n) true f e = record { start-is = cc; fits = f }
   gives-if (suc n) false f e = absurd (let z : _≡_ {A = ℕ} 0 1 = cc in omega arith)
 
-  gives : (s : answers.Answer) → cutFor s h count table stack t a₀ ≡ cut-is.At a → Gives h count table stack t a₀ a
-  gives (answers.member true) e = gives-if (at count a₀) _ refl e
-  gives (answers.member false) e = absurd (let z : _≡_ {A = ℕ} 0 1 = cc in omega arith)
-  gives answers.done e = absurd (let z : _≡_ {A = ℕ} 0 1 = cc in omega arith)
-  gives (answers.takes n) e = absurd (let z : _≡_ {A = ℕ} 0 1 = cc in omega arith)
-  gives (answers.start q c) e = absurd (let z : _≡_ {A = ℕ} 0 1 = cc in omega arith)
-  gives (answers.missing c) e = absurd (let z : _≡_ {A = ℕ} 0 1 = cc in omega arith)
-  gives (answers.refused n c) e = absurd (let z : _≡_ {A = ℕ} 0 1 = cc in omega arith)
+  gives : (s : Membership) → cutFor s h count table stack t a₀ ≡ cut-is.At a → Gives h count table stack t a₀ a
+  gives membership-is.Member e = gives-if (at count a₀) _ refl e
+  gives membership-is.Absent e = absurd (let z : _≡_ {A = ℕ} 0 1 = cc in omega arith)
+  gives (membership-is.Refused n) e = absurd (let z : _≡_ {A = ℕ} 0 1 = cc in omega arith)
 
 top-readable : (table stack : List ℕ) (t a n : ℕ) → a + n ≤ t → at stack (a + n - 1) < t → t ≤ 262144 → t ≤ length table → t ≤ length stack → Top table stack a n
 top-readable table stack t a zero room top few long-table long-stack = tt

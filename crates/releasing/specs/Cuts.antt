@@ -3,7 +3,7 @@ use mathlib.Core.Path.{_≡_}
 use mathlib.Core.List.{List}
 use Prim.Native.Nat.{ℕ, _+_, _≤_, _<_}
 use lib.ListN.{length, set}
-use Rattle.index.specs.Answers as index
+use Rattle.index.specs.declared.Membership.{Membership}
 use Rattle.index.specs.Promise.{Asked}
 use Rattle.machine.specs.Machine.{places, placeOf}
 use Rattle.memory.specs.Memory.{Memory, memory, at, sizesOf}
@@ -48,7 +48,7 @@ pub record Splices (h : Head) (count table stack link : List ℕ) (a : ℕ) (r :
 -- ---- what a release is to do: the check's refusal, or what follows from whether the page is a start
 
 pub record CutsFrom (k : Memory) (a : ℕ) (r : Cut) : Type 0 where
-  pub is-set : index.Answer
+  pub is-set : Membership
   pub set-asked : Asked (places (sizesOf (k .head))) a (k .index) is-set
   pub is : r ≡ cutFor is-set (k .head) (k .count) (k .table) (k .stack) (places (sizesOf (k .head))) a
 
