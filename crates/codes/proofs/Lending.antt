@@ -6,12 +6,13 @@ use native.Mathlib.Omega.{arith}
 use borrow.Author.Tests.{leb-true}
 use lib.Dec.{eqb, leb}
 use Rattle.machine.specs.Laws.Sizes.{both}
-use Rattle.serving.specs.declared.Request.{Request}
-use Rattle.serving.specs.declared.Request.the-variants.{Start, Free, Translate, List}
+use Rattle.machine.specs.declared.PageCall.the-variants.{Mark, Drop, Touch, Look, Release}
+use Rattle.requests.specs.declared.Request.{Request}
+use Rattle.requests.specs.declared.Request.the-variants.{Start, Page, Free, Translate, List}
 use Rattle.codes.specs.declared.Parts.{Parts}
 use Rattle.codes.specs.declared.Code.{Code}
 use Rattle.codes.specs.declared.Code.the-variants.{Call, Unreadable}
-use Rattle.codes.specs.Codes.{fits, inside, noParts, byteParts, recordParts, pageRequest, spanRequest, decoded}
+use Rattle.codes.specs.Codes.{fits, inside, noParts, byteParts, recordParts, spanRequest, decoded}
 
 pub record Inside (p : Parts) (wholeBytes wholeRecords : ℕ) : Type 0 where
   pub from-first : p .from ≤ p .to
@@ -55,8 +56,13 @@ module _ (q : Request) (p : Parts) (wholeBytes wholeRecords : ℕ) where
   unfolding decoded
   decoded-inside kind a b c d =
       either (eqb kind 1) _ _ (made (fits a && fits b && fits c && fits d) (Start a b c d) noParts (λ _. no-parts))
-      (either (leb 2 kind && leb kind 6) _ _ (made (fits a && fits b) (pageRequest kind a b) noParts (λ _. no-parts))
+      (either (eqb kind 2) _ _ (made (fits a && fits b) (Page Mark a b) noParts (λ _. no-parts))
+      (either (eqb kind 3) _ _ (made (fits a && fits b) (Page Drop a b) noParts (λ _. no-parts))
+      (either (eqb kind 4) _ _ (made (fits a && fits b) (Page Touch a b) noParts (λ _. no-parts))
+      (either (eqb kind 5) _ _ (made (fits a && fits b) (Page Look a b) noParts (λ _. no-parts))
+      (either (eqb kind 6) _ _ (made (fits a && fits b) (Page Release a b) noParts (λ _. no-parts))
       (either (eqb kind 7) _ _ (made true Free noParts (λ _. no-parts))
       (either (eqb kind 8) _ _ (made (fits a) (Translate a b) noParts (λ _. no-parts))
-      (either (leb 9 kind && leb kind 10) _ _ (made (fits a && inside c d wholeBytes) (spanRequest kind a b) (byteParts c d) (byte-parts (fits a) c d))
-      (either (eqb kind 11) _ _ (made (fits a && inside b c wholeRecords) (List a) (recordParts b c) (record-parts (fits a) b c)) no-call)))))
+      (either (eqb kind 9) _ _ (made (fits a && inside c d wholeBytes) (spanRequest 9 a b) (byteParts c d) (byte-parts (fits a) c d))
+      (either (eqb kind 10) _ _ (made (fits a && inside c d wholeBytes) (spanRequest 10 a b) (byteParts c d) (byte-parts (fits a) c d))
+      (either (eqb kind 11) _ _ (made (fits a && inside b c wholeRecords) (List a) (recordParts b c) (record-parts (fits a) b c)) no-call))))))))))

@@ -8,13 +8,14 @@ use borrow.Rule.Slice.PartMut.{same-len-mid}
 use lib.ListN.{length}
 use Rattle.memory.specs.Memory.{Memory, lengths}
 use Rattle.demands.specs.History.{Event}
-use Rattle.serving.specs.Requests.{replied, Serves}
-use Rattle.serving.specs.declared.Request.{Request}
-use Rattle.serving.specs.declared.Reply.{Reply}
+use Rattle.requests.specs.Requests.{replied}
+use Rattle.serving.specs.Serves.{Serves}
+use Rattle.requests.specs.declared.Request.{Request}
+use Rattle.requests.specs.declared.Reply.{Reply}
 use Rattle.codes.specs.declared.Parts.{Parts}
 use Rattle.codes.specs.declared.Code.{Code}
 use Rattle.codes.specs.declared.Code.the-variants.{Call, Unreadable}
-use Rattle.coding.specs.Codes.{encoded}
+use Rattle.requests.specs.Codes.{encoded}
 use Rattle.codes.specs.Codes.{codeAt}
 use Rattle.codes.specs.Plays.{Desk, part, withPart, withReply, called, Calls, PlayedOne, Turns}
 use Rattle.codes.specs.Plays.Turns.{none, skip, turn}

@@ -4,10 +4,11 @@ use mathlib.Core.List.{List, [], _∷_}
 use Prim.Native.Nat.{ℕ, _+_, _-_, _*_, _^_}
 use lib.Dec.{eqb, leb, ltb}
 use lib.ListN.{getD}
-use Rattle.serving.specs.declared.Request.{Request}
-use Rattle.serving.specs.declared.Request.the-variants as request-is
+use Rattle.machine.specs.declared.PageCall.{PageCall}
+use Rattle.machine.specs.declared.PageCall.the-variants.{Mark, Drop, Touch, Look, Release}
+use Rattle.requests.specs.declared.Request.{Request}
+use Rattle.requests.specs.declared.Request.the-variants as request-is
 use Rattle.codes.specs.declared.Parts.{Parts}
-use Rattle.codes.specs.declared.Words.{Words}
 use Rattle.codes.specs.declared.Code.{Code}
 use Rattle.codes.specs.declared.Code.the-variants.{Call, Unreadable}
 
@@ -35,15 +36,8 @@ recordParts first n = record { from = 0; to = 0; first = first; last = first + n
 abbrev pub startCode : ℕ → ℕ → ℕ → ℕ → Code
 startCode s n f p = cond (fits s && fits n && fits f && fits p) (Call (request-is.Start s n f p) noParts) Unreadable
 
-abbrev pub pageRequest : ℕ → ℕ → ℕ → Request
-pageRequest kind i b =
-    cond (eqb kind 2) (request-is.Mark i b)
-    (cond (eqb kind 3) (request-is.Drop i b)
-    (cond (eqb kind 4) (request-is.Touch i b)
-    (cond (eqb kind 5) (request-is.Look i b) (request-is.Release i b))))
-
-abbrev pub pageCode : ℕ → ℕ → ℕ → Code
-pageCode kind i b = cond (fits i && fits b) (Call (pageRequest kind i b) noParts) Unreadable
+abbrev pub pageCode : PageCall → ℕ → ℕ → Code
+pageCode p i b = cond (fits i && fits b) (Call (request-is.Page p i b) noParts) Unreadable
 
 abbrev pub translateCode : ℕ → ℕ → Code
 translateCode i x = cond (fits i) (Call (request-is.Translate i x) noParts) Unreadable
@@ -57,16 +51,20 @@ spanCode kind i x from n whole = cond (fits i && inside from n whole) (Call (spa
 abbrev pub listCode : ℕ → ℕ → ℕ → ℕ → Code
 listCode i first n whole = cond (fits i && inside first n whole) (Call (request-is.List i) (recordParts first n)) Unreadable
 
--- 1 start, 2 mark, 3 drop, 4 touch, 5 look, 6 release, 7 free, 8 translate, 9 read, 10 write, 11 list;
 -- given how many bytes and how many numbers of records there are
 unfoldable pub decoded : ℕ → ℕ → ℕ → ℕ → ℕ → ℕ → ℕ → Code
 decoded kind a b c d wholeBytes wholeRecords =
     cond (eqb kind 1) (startCode a b c d)
-    (cond (leb 2 kind && leb kind 6) (pageCode kind a b)
+    (cond (eqb kind 2) (pageCode Mark a b)
+    (cond (eqb kind 3) (pageCode Drop a b)
+    (cond (eqb kind 4) (pageCode Touch a b)
+    (cond (eqb kind 5) (pageCode Look a b)
+    (cond (eqb kind 6) (pageCode Release a b)
     (cond (eqb kind 7) (Call request-is.Free noParts)
     (cond (eqb kind 8) (translateCode a b)
-    (cond (leb 9 kind && leb kind 10) (spanCode kind a b c d wholeBytes)
-    (cond (eqb kind 11) (listCode a b c wholeRecords) Unreadable)))))
+    (cond (eqb kind 9) (spanCode 9 a b c d wholeBytes)
+    (cond (eqb kind 10) (spanCode 10 a b c d wholeBytes)
+    (cond (eqb kind 11) (listCode a b c wholeRecords) Unreadable))))))))))
 
 -- code number j of a list
 abbrev pub codeAt : List ℕ → ℕ → ℕ → ℕ → Code
@@ -74,11 +72,8 @@ codeAt codes wholeBytes wholeRecords j =
     decoded (getD codes (5 * j) 0) (getD codes (5 * j + 1) 0) (getD codes (5 * j + 2) 0) (getD codes (5 * j + 3) 0) (getD codes (5 * j + 4) 0)
     wholeBytes wholeRecords
 
--- ---- an answer: three numbers, as `encoded` of crate coding has them
+-- ---- an answer: three numbers, as `encoded` of crate requests has them
 
 -- where the five numbers are no call
 abbrev pub unreadable : List ℕ
 unreadable = 0 ∷ 0 ∷ 0 ∷ []
-
-abbrev pub wordsOf : Words → List ℕ
-wordsOf w = w .kind ∷ w .value ∷ w .words ∷ []

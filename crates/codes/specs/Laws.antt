@@ -14,10 +14,10 @@ use Rattle.laws.specs.Refusals.{passed-step}
 use Rattle.demands.specs.History.{Event, Run, none, next}
 use Rattle.demands.specs.Demands.{machineAt, Demand3}
 use Rattle.demands.specs.Theorems.{demand-3}
-use Rattle.serving.specs.Requests.{requested}
+use Rattle.requests.specs.Requests.{requested}
 use Rattle.serving.specs.Steps.{RoomFor, whole-step, Stands, serve-follows}
-use Rattle.serving.specs.declared.Request.{Request}
-use Rattle.serving.specs.declared.Request.the-variants.{Start, Mark, Drop, Touch, Look, Release, Free, Translate, Read, Write, List as Listing}
+use Rattle.requests.specs.declared.Request.{Request}
+use Rattle.requests.specs.declared.Request.the-variants.{Start, Page, Free, Translate, Read, Write, List as Listing}
 use Rattle.codes.specs.declared.Parts.{Parts}
 use Rattle.codes.specs.declared.Code.{Code}
 use Rattle.codes.specs.declared.Code.the-variants.{Call, Unreadable}
@@ -54,11 +54,7 @@ module _ (k k₁ : Memory) (same : lengths k₁ ≡ lengths k) where
   room-moves : (q : Request) → RoomFor q k → RoomFor q k₁
   unfolding asked
   room-moves (Start s n f p) room bytes records e = roomy-moves _ k k₁ same (room bytes records (subst (λ (l : Lent). asked (sizesOf (k .head)) (requested (Start s n f p) bytes records l) ≡ 0) same e))
-  room-moves (Mark i b) room bytes records e = tt
-  room-moves (Drop i b) room bytes records e = tt
-  room-moves (Touch i b) room bytes records e = tt
-  room-moves (Look i b) room bytes records e = tt
-  room-moves (Release i b) room bytes records e = tt
+  room-moves (Page p i b) room bytes records e = tt
   room-moves Free room bytes records e = tt
   room-moves (Translate i x) room bytes records e = tt
   room-moves (Read i x) room bytes records e = tt
@@ -120,7 +116,7 @@ record FromStart (codes : List ℕ) (n : ℕ) (z : Sizes) (k : Memory) (d : Desk
   first : Event
   later : List Event
   events-are : es ≡ first ∷ later
-  demand : Demand3 z k later k′ (machineAt z k later)
+  demand : Demand3 (begun z []) k later k′ (machineAt (begun z []) k later)
 
 from-start : {n : ℕ} {k k′ : Memory} {d d′ : Desk} {es : List Event} (codes : List ℕ) (z : Sizes) → StartsFirst codes n k d z
     → Turns codes (length (d .bytes)) (length (d .records)) 0 n k d es k′ d′ → FromStart codes n z k d es k′ d′
@@ -138,17 +134,21 @@ from-start codes z b (turn {n = n} {k = k} {k₁ = k₁} {d = d} {q = q} {p = p}
     let rooms = rooms-rest codes bytes records 0 n k k₁ same (b .rooms) in
     let move = ap (λ (c : Code). playOne 0 (lengths k) c (record { state = unstarted (k .ram); desk = d })) e
     ∙ first-play z k d q p a same-request (begins .0) (b .accepted) in
-    let beside = turns-beside codes bytes records (begun z (k .ram)) t (inl (begins .1 .holds room-of)) rooms in
+    let beside = turns-beside codes bytes records (begun z (k .ram)) t (inl (begins .1 room-of)) rooms in
     record {
       desk-is = (rw same at (beside .desk-is)) ∙ ap (λ (x : Played). plays codes bytes records (lengths k) 1 n x .desk) (sym move);
       first = _;
       later = _;
       events-are = refl;
-      demand = demand-3 z k _ _
+      demand = demand-3 (begun z []) k _ _
           (record {
-            lent = lengths k;
             started = k₁;
-            accepted = whole-step (Start (z .spaces) (z .pages) (z .frames) (z .page)) [] [] k done k₁ (λ _ _ _. room-of) (rw (begins .0) at started);
+            beginning = record {
+              first = record { call = start z; lent = lengths k; answer = done };
+              begins = refl;
+              accepted = refl;
+              step = whole-step (Start (z .spaces) (z .pages) (z .frames) (z .page)) [] [] k done k₁ (λ _ _ _. room-of) (rw (begins .0) at started);
+            };
             run = turns-run codes bytes records t rooms;
           });
     }

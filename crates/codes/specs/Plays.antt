@@ -7,12 +7,12 @@ use Rattle.machine.specs.Machine.{State, Lent, Call as MachineCall, Answer, ans
 use Rattle.memory.specs.Memory.{Memory, lengths}
 use Rattle.promise.specs.Did.{Did}
 use Rattle.demands.specs.History.{Event}
-use Rattle.serving.specs.Requests.{requested, bytesInto, recordsInto}
-use Rattle.serving.specs.declared.Request.{Request}
+use Rattle.requests.specs.Requests.{requested, bytesInto, recordsInto}
+use Rattle.requests.specs.declared.Request.{Request}
 use Rattle.codes.specs.declared.Parts.{Parts}
 use Rattle.codes.specs.declared.Code.{Code}
 use Rattle.codes.specs.declared.Code.the-variants.{Call, Unreadable}
-use Rattle.coding.specs.Codes.{encoded}
+use Rattle.requests.specs.Codes.{encoded}
 use Rattle.codes.specs.Codes.{codeAt, unreadable}
 
 -- ---- the caller's buffers

@@ -1,14 +1,14 @@
 -- What playing a list of codes promises: demands 2 and 3 of the calls that were made.
 use mathlib.Core.Path.{_≡_}
-use mathlib.Core.List.{List, _∷_}
+use mathlib.Core.List.{List, [], _∷_}
 use Prim.Native.Nat.{ℕ, _+_, _<_}
 use lib.ListN.{length}
-use Rattle.machine.specs.Machine.{Sizes, State, start, asked, unstarted}
+use Rattle.machine.specs.Machine.{Sizes, State, start, asked, begun, unstarted}
 use Rattle.memory.specs.Memory.{Memory, lengths}
 use Rattle.demands.specs.History.{Event}
 use Rattle.demands.specs.Demands.{machineAt, Demand3}
 use Rattle.serving.specs.Steps.{RoomFor, Stands}
-use Rattle.serving.specs.declared.Request.the-variants as request-is
+use Rattle.requests.specs.declared.Request.the-variants as request-is
 use Rattle.codes.specs.declared.Parts.{Parts}
 use Rattle.codes.specs.declared.Code.{Code}
 use Rattle.codes.specs.declared.Code.the-variants.{Call, Unreadable}
@@ -55,4 +55,4 @@ module _ (codes : List ℕ) (n : ℕ) (k : Memory) (d : Desk) where
     -- and where the memory stands for a machine already, started or not
     pub honest : (m : State) → Stands m k → Rooms codes wholeBytes wholeRecords 0 n k → (d′ ≡ byMachine m .desk) × Stands (byMachine m .state) k′
     -- "One claim over every sequence of calls": of the calls after the start
-    pub demand-3 : (z : Sizes) → StartsFirst z → (e : Event) × (es : List Event) × (events ≡ e ∷ es) × Demand3 z k es k′ (machineAt z k es)
+    pub demand-3 : (z : Sizes) → StartsFirst z → (e : Event) × (es : List Event) × (events ≡ e ∷ es) × let m = begun z [] in Demand3 m k es k′ (machineAt m k es)

@@ -1,11 +1,12 @@
 // Five numbers as a call.
 use crate::Code;
 use crate::Parts;
-use serving::Request;
+use machine::PageCall;
+use requests::Request;
 ghost use mathlib.Core.Bool.{_&&_};
 ghost use mathlib.Core.Path.{_≡_};
 ghost use Prim.Native.Nat.{_≤_};
-ghost use Rattle.codes.specs.Codes.{fits, inside, noParts, startCode, pageRequest, pageCode, translateCode, spanRequest, spanCode, listCode, decoded};
+ghost use Rattle.codes.specs.Codes.{fits, inside, noParts, startCode, pageCode, translateCode, spanRequest, spanCode, listCode, decoded};
 
 // Whether it is a number of 32 bits.
 fn is_small(n: u64) -> bool
@@ -55,20 +56,8 @@ fn start_code(s: u64, n: u64, f: u64, p: u64) -> Code
     )
 }
 
-fn page_request(kind: u64, i: u32, b: u32) -> Request
-    ensures { λ r. ⌜ r ≡ pageRequest kind i b ⌝ }
-{
-    match kind {
-        2 => Request::Mark(i, b),
-        3 => Request::Drop(i, b),
-        4 => Request::Touch(i, b),
-        5 => Request::Look(i, b),
-        _ => Request::Release(i, b),
-    }
-}
-
-fn page_code(kind: u64, i: u64, b: u64) -> Code
-    ensures { λ r. ⌜ r ≡ pageCode kind i b ⌝ }
+fn page_code(call: PageCall, i: u64, b: u64) -> Code
+    ensures { λ r. ⌜ r ≡ pageCode call i b ⌝ }
 {
     if !is_small(i) {
         return Code::Unreadable;
@@ -76,7 +65,7 @@ fn page_code(kind: u64, i: u64, b: u64) -> Code
     if !is_small(b) {
         return Code::Unreadable;
     }
-    Code::Call(page_request(kind, i as u32, b as u32), no_parts())
+    Code::Call(Request::Page(call, i as u32, b as u32), no_parts())
 }
 
 fn translate_code(i: u64, x: usize) -> Code
@@ -150,10 +139,15 @@ pub(crate) fn decode(
 {
     match kind {
         1 => start_code(a, b, c, d),
-        2..=6 => page_code(kind, a, b),
+        2 => page_code(PageCall::Mark, a, b),
+        3 => page_code(PageCall::Drop, a, b),
+        4 => page_code(PageCall::Touch, a, b),
+        5 => page_code(PageCall::Look, a, b),
+        6 => page_code(PageCall::Release, a, b),
         7 => Code::Call(Request::Free, no_parts()),
         8 => translate_code(a, b as usize),
-        9..=10 => span_code(kind, a, b as usize, c as usize, d as usize, bytes),
+        9 => span_code(9, a, b as usize, c as usize, d as usize, bytes),
+        10 => span_code(10, a, b as usize, c as usize, d as usize, bytes),
         11 => list_code(a, b as usize, c as usize, records),
         _ => Code::Unreadable,
     }

@@ -1,14 +1,16 @@
 // Plays a lent list of encoded calls on lent memory: five numbers a call, three an answer.
 mod decoding;
-mod encoding;
 
 use memory::Head;
-use serving::Request;
+use requests::Answer;
+use requests::Request;
+use requests::encode;
 use serving::serve;
 ghost use mathlib.Core.Path.{_≡_};
 ghost use Prim.Native.Nat.{min, _/_};
 ghost use lib.ListN.{length};
 ghost use Rattle.memory.specs.Memory.{memory};
+ghost use Rattle.requests.specs.Codes.{numbersOf};
 ghost use Rattle.codes.specs.Codes.{decoded};
 ghost use Rattle.codes.specs.Plays.{PlayedOne};
 ghost use Rattle.codes.specs.Promise.{Plays};
@@ -27,11 +29,14 @@ pub enum Code {
     Unreadable,
 }
 
-// An answer as numbers: its kind or the number of its refusal, a value, the index words.
-pub struct Words {
-    pub kind: u64,
-    pub value: u64,
-    pub words: u64,
+// Puts an answer where three numbers stand.
+fn put(reply: &mut [u64], a: Answer)
+    requires { ⌜ length (now reply) ≡ 3 ⌝ }
+    ensures { λ _. ⌜ now (reply .exit) ≡ numbersOf a ⌝ }
+{
+    reply[0] = a.kind as u64;
+    reply[1] = a.value;
+    reply[2] = a.words as u64;
 }
 
 // Plays the call that five numbers are, if they are one.
@@ -64,12 +69,12 @@ fn play_one(
 {
     let code = decoding::decode(kind, a, b, c, d, bytes.len(), records.len());
     let Code::Call(request, parts) = code else {
-        encoding::put(
+        put(
             reply,
-            Words {
+            Answer {
                 kind: 0,
-                value: 0,
                 words: 0,
+                value: 0,
             },
         );
         return head;
@@ -94,7 +99,7 @@ fn play_one(
     );
     let next = out.head;
     let told = out.reply;
-    encoding::put(reply, encoding::encode(told, to - from));
+    put(reply, encode(told, to - from));
     next
 }
 

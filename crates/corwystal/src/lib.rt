@@ -1,7 +1,7 @@
 // The entrance for C and Rust: the board's calls, exported, each answer as numbers. bindings/c/corwystal.h declares them.
-use coding::Answer;
 use machine::Region;
 use memory::Head;
+use requests::Answer;
 use sizing::Needs;
 ghost use mathlib.Core.Path.{_≡_};
 ghost use mathlib.Core.List.{List};
@@ -50,7 +50,7 @@ pub extern "C" fn corwystal_start(
         (doneSays a)
         (memory (now (head .exit)) (now (index .exit)) (now (count .exit)) table helper stack cache link ram)) r ⌝ }
 {
-    coding::of_done(board::start(head, spaces, pages, frames, page, index, count))
+    requests::encode_done(board::start(head, spaces, pages, frames, page, index, count))
 }
 
 // Adds a start.
@@ -69,7 +69,7 @@ pub extern "C" fn corwystal_mark(
         (doneSays a)
         (memory (now (head .entry)) (now (index .exit)) (now (count .entry)) table helper stack cache link ram)) r ⌝ }
 {
-    coding::of_done(board::mark(head, space, page, index, count))
+    requests::encode_done(board::mark(head, space, page, index, count))
 }
 
 // Removes a start whose region has no resident page.
@@ -88,7 +88,7 @@ pub extern "C" fn corwystal_drop(
         (doneSays a)
         (memory (now (head .entry)) (now (index .exit)) (now (count .entry)) table helper stack cache link ram)) r ⌝ }
 {
-    coding::of_done(board::drop(head, space, page, index, count))
+    requests::encode_done(board::drop(head, space, page, index, count))
 }
 
 // The page's frame, mapped if need be.
@@ -112,7 +112,7 @@ pub extern "C" fn corwystal_touch(
         (touchedSays a)
         (memory (now (head .exit)) (now (index .entry)) (now (count .exit)) (now (table .exit)) (now (helper .exit)) (now (stack .exit)) (now (cache .exit)) (now (link .exit)) ram)) r ⌝ }
 {
-    coding::of_touched(board::touch(
+    requests::encode_touched(board::touch(
         head,
         space,
         page,
@@ -146,7 +146,17 @@ pub extern "C" fn corwystal_look(
         (lookedSays a)
         (memory (now (head .entry)) (now (index .entry)) (now (count .entry)) (now (table .entry)) (now (helper .entry)) (now (stack .entry)) (now (cache .entry)) link ram)) r ⌝ }
 {
-    coding::of_looked(board::look(head, space, page, index, count, table, helper, stack, cache))
+    requests::encode_looked(board::look(
+        head,
+        space,
+        page,
+        index,
+        count,
+        table,
+        helper,
+        stack,
+        cache,
+    ))
 }
 
 // Gives back every page of the region that starts at a page, in constant time.
@@ -168,7 +178,7 @@ pub extern "C" fn corwystal_release(
         (releasedSays a)
         (memory (now (head .exit)) (now (index .entry)) (now (count .exit)) (now (table .entry)) helper (now (stack .entry)) cache (now (link .exit)) ram)) r ⌝ }
 {
-    coding::of_released(board::release(head, space, page, index, count, table, stack, link))
+    requests::encode_released(board::release(head, space, page, index, count, table, stack, link))
 }
 
 // The frames in the pool. Lent nothing but the head.
@@ -178,7 +188,7 @@ pub extern "C" fn corwystal_free_count(head: &Head) -> Answer
         (index count table helper stack cache link ram : List ℕ) →
         Did (λ _. machine.free) (memory (now (head .entry)) index count table helper stack cache link ram) (freeSays a) (memory (now (head .entry)) index count table helper stack cache link ram)) r ⌝ }
 {
-    coding::of_free(board::free(head))
+    requests::encode_free(board::free(head))
 }
 
 // The place in RAM of an address.
@@ -201,7 +211,7 @@ pub extern "C" fn corwystal_translate(
         (translatedSays a)
         (memory (now (head .entry)) (now (index .entry)) (now (count .entry)) (now (table .entry)) (now (helper .entry)) (now (stack .entry)) (now (cache .entry)) link ram)) r ⌝ }
 {
-    coding::of_translated(board::translate(
+    requests::encode_translated(board::translate(
         head,
         space,
         address,
@@ -236,7 +246,7 @@ pub extern "C" fn corwystal_read(
         a (now (buffer .entry)) (now (buffer .exit))) r ⌝ }
 {
     let n = buffer.len();
-    coding::of_copied(
+    requests::encode_copied(
         board::read(
             head,
             space,
@@ -276,7 +286,7 @@ pub extern "C" fn corwystal_write(
         (doneSays a)
         (memory (now (head .exit)) (now (index .entry)) (now (count .exit)) (now (table .exit)) (now (helper .exit)) (now (stack .exit)) (now (cache .exit)) (now (link .exit)) (now (ram .exit)))) r ⌝ }
 {
-    coding::of_done(board::write(
+    requests::encode_done(board::write(
         head,
         space,
         address,
@@ -307,5 +317,5 @@ pub extern "C" fn corwystal_list(
         (memory (now (head .entry)) (now (index .entry)) (now (count .entry)) table helper stack cache link ram)
         a (now (records .entry)) (now (records .exit))) r ⌝ }
 {
-    coding::of_listed(board::list(head, space, records, index, count))
+    requests::encode_listed(board::list(head, space, records, index, count))
 }

@@ -1,6 +1,5 @@
 -- Laws of writing after what stands in a buffer, and of an answer's parts.
 use mathlib.Core.Path.{_≡_, refl, sym, ap, _∙_}
-use mathlib.Core.Bool.{Bool}
 use mathlib.Core.List.{List, [], _∷_, _++_, append-assoc, append-nil}
 use Prim.Native.Nat.{ℕ, zero, suc, _+_, _-_, _*_, _/_, _%_, _^_, _≤_, _<_}
 use native.Mathlib.Nat.{mod-eq-of-lt, pow-suc, pow-le-pow-right, lt-of-not-le}
@@ -11,9 +10,9 @@ use lib.ListN.{length, take, drop, set, getD, length-append, length-set}
 use lib.Seq.{take-suc, take-suc-set, take-at}
 use Rattle.io.specs.Digits.{glyph, digits, Fewest}
 use Rattle.promise.specs.Filled.{recordsIn}
-use Rattle.serving.specs.Requests.{numbersOf, replied}
-use Rattle.serving.specs.Laws.{records-length, numbers-length, records-numbers}
-use Rattle.serving.specs.declared.Reply.the-variants as reply-is
+use Rattle.requests.specs.Requests.{regionNumbers, replied}
+use Rattle.requests.specs.Laws.{records-length, numbers-length, records-numbers}
+use Rattle.requests.specs.declared.Reply.the-variants as reply-is
 use Rattle.printing.specs.Text.{decimal, decimalWith, hexText, bytesText, numbersText, regionsWord, blank, text}
 use Rattle.printing.specs.Writing.{Wrote}
 
@@ -114,12 +113,12 @@ few-digits n k h f =
 
 -- ---- records
 
-records-are : (n : ℕ) (ws : List ℕ) → 3 * n ≤ length ws → numbersOf (recordsIn n ws) ≡ take (3 * n) ws
+records-are : (n : ℕ) (ws : List ℕ) → 3 * n ≤ length ws → regionNumbers (recordsIn n ws) ≡ take (3 * n) ws
 records-are n ws h =
     let e = records-numbers n ws h in
     let l = numbers-length (recordsIn n ws) ∙ ap (λ (k : ℕ). 3 * k) (records-length n ws) in
     sym (take-at _ (drop (3 * n) ws) (3 * n) l) ∙ ap (take (3 * n)) e
 
-pub regions-text : (f : Bool) (n : ℕ) (bytes ws : List ℕ) → 3 * n ≤ length ws
-    → text f (replied (reply-is.Regions n) bytes ws) ≡ regionsWord ++ (decimal n ++ numbersText (take (3 * n) ws))
-regions-text f n bytes ws h = rw (records-length n ws, records-are n ws h)
+pub regions-text : (n : ℕ) (bytes ws : List ℕ) → 3 * n ≤ length ws
+    → text (replied (reply-is.Regions n) bytes ws) ≡ regionsWord ++ (decimal n ++ numbersText (take (3 * n) ws))
+regions-text n bytes ws h = rw (records-length n ws, records-are n ws h)

@@ -1,14 +1,12 @@
 -- The text of an answer: document 01, "One session whole". Definitions only.
-use mathlib.Core.Bool.{Bool, true, false, cond}
+use mathlib.Core.Bool.{cond}
 use mathlib.Core.List.{List, [], _∷_, _++_}
 use Prim.Native.Nat.{ℕ, zero, suc, _/_, _%_}
 use lib.Dec.{ltb}
 use lib.ListN.{length}
 use Rattle.io.specs.Digits.{glyph}
-use Rattle.machine.specs.Machine.{Answer, done, old, new, resident, absent, pages, frames, at, bytes, regions, refused}
-use Rattle.serving.specs.Requests.{numbersOf}
-use Rattle.serving.specs.declared.Request.{Request}
-use Rattle.serving.specs.declared.Request.the-variants as request-is
+use Rattle.machine.specs.Machine.{Answer, done, old, new, resident, absent, pages, frames, at, bytes, regions, refused, refusedAfter}
+use Rattle.requests.specs.Requests.{regionNumbers}
 
 -- ---- "Numbers are decimal, bytes two lowercase hex digits each, run together"
 
@@ -98,34 +96,17 @@ unfoldable pub numbersText : List ℕ → List ℕ
 numbersText [] = []
 numbersText (n ∷ ns) = blank ++ (decimal n ++ numbersText ns)
 
--- whether a call's refusal has its index words: "for touch and look then the index words"
-abbrev pub finds : Request → Bool
-finds (request-is.Start s n f p) = false
-finds (request-is.Mark i b) = false
-finds (request-is.Drop i b) = false
-finds (request-is.Touch i b) = true
-finds (request-is.Look i b) = true
-finds (request-is.Release i b) = false
-finds request-is.Free = false
-finds (request-is.Translate i x) = false
-finds (request-is.Read i x) = false
-finds (request-is.Write i x) = false
-finds (request-is.List i) = false
-
-abbrev pub wordsText : Bool → ℕ → List ℕ
-wordsText true w = blank ++ decimal w
-wordsText false w = []
-
--- given whether the call finds
-abbrev pub text : Bool → Answer → List ℕ
-text f done = okWord
-text f (old n) = frameWord ++ (decimal n ++ oldWord)
-text f (new n w) = frameWord ++ (decimal n ++ (newWord ++ decimal w))
-text f (resident n) = residentWord ++ (decimal n ++ noWords)
-text f (absent w) = absentWord ++ decimal w
-text f (pages n) = pagesWord ++ decimal n
-text f (frames n) = freeWord ++ decimal n
-text f (at p) = atWord ++ decimal p
-text f (bytes vs) = bytesWord ++ bytesText vs
-text f (regions rs) = regionsWord ++ (decimal (length rs) ++ numbersText (numbersOf rs))
-text f (refused k w) = noWord ++ (decimal k ++ wordsText f w)
+abbrev pub text : Answer → List ℕ
+text done = okWord
+text (old n) = frameWord ++ (decimal n ++ oldWord)
+text (new n w) = frameWord ++ (decimal n ++ (newWord ++ decimal w))
+text (resident n) = residentWord ++ (decimal n ++ noWords)
+text (absent w) = absentWord ++ decimal w
+text (pages n) = pagesWord ++ decimal n
+text (frames n) = freeWord ++ decimal n
+text (at p) = atWord ++ decimal p
+text (bytes vs) = bytesWord ++ bytesText vs
+text (regions rs) = regionsWord ++ (decimal (length rs) ++ numbersText (regionNumbers rs))
+text (refused k) = noWord ++ decimal k
+-- "for touch and look then the index words"
+text (refusedAfter k w) = noWord ++ (decimal k ++ (blank ++ decimal w))

@@ -1,12 +1,11 @@
 -- What it is to write text into a buffer after what stands there already.
 use mathlib.Core.Path.{_≡_}
-use mathlib.Core.Bool.{Bool}
 use mathlib.Core.List.{List, [], _∷_, _++_}
 use Prim.Native.Nat.{ℕ, _+_, _*_, _≤_}
 use lib.ListN.{length, take}
-use Rattle.serving.specs.Requests.{replied}
-use Rattle.serving.specs.declared.Reply.{Reply}
-use Rattle.serving.specs.declared.Reply.the-variants as reply-is
+use Rattle.requests.specs.Requests.{replied}
+use Rattle.requests.specs.declared.Reply.{Reply}
+use Rattle.requests.specs.declared.Reply.the-variants as reply-is
 use Rattle.printing.specs.Text.{text}
 
 -- the text stands after the first `at` bytes, and ends at `end`; what stands after it is the program's choice
@@ -27,7 +26,8 @@ shown (reply-is.Frames n) = 0
 shown (reply-is.At p) = 0
 shown reply-is.Bytes = 0
 shown (reply-is.Regions n) = 3 * n
-shown (reply-is.Refused k w) = 0
+shown (reply-is.Refused k) = 0
+shown (reply-is.RefusedAfter k w) = 0
 
 -- room for the longest answer of a session: 256 bytes, or 1,024 regions
 pub record Roomy (at : ℕ) (out : List ℕ) (r : Reply) (bytes records : List ℕ) : Type 0 where
@@ -37,5 +37,5 @@ pub record Roomy (at : ℕ) (out : List ℕ) (r : Reply) (bytes records : List �
   pub records-are : shown r ≤ length records
 
 -- with that room the reply's text is written
-abbrev pub Says : Bool → ℕ → List ℕ → Reply → List ℕ → List ℕ → ℕ → List ℕ → Type 0
-Says f at out r bytes records end out′ = Roomy at out r bytes records → Wrote at out (text f (replied r bytes records)) end out′
+abbrev pub Says : ℕ → List ℕ → Reply → List ℕ → List ℕ → ℕ → List ℕ → Type 0
+Says at out r bytes records end out′ = Roomy at out r bytes records → Wrote at out (text (replied r bytes records)) end out′

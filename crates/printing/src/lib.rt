@@ -5,11 +5,11 @@ use parts::put;
 use parts::put_hex;
 use parts::put_number;
 use parts::put_numbers;
-use serving::Reply;
+use requests::Reply;
 ghost use mathlib.Core.List.{_++_};
 ghost use Prim.Native.Nat.{_+_, _≤_};
 ghost use lib.ListN.{length};
-ghost use Rattle.printing.specs.Text.{decimal, bytesWord, bytesText, regionsWord, numbersText, noWord, wordsText, badLine};
+ghost use Rattle.printing.specs.Text.{decimal, bytesWord, bytesText, regionsWord, numbersText, noWord, blank, badLine};
 ghost use Rattle.printing.specs.Writing.{Wrote, Says};
 
 // A word, then a number.
@@ -44,28 +44,18 @@ fn put_regions(out: &mut [u8], at: usize, n: u32, numbers: &[u32]) -> usize
     put_numbers(out, next, numbers)
 }
 
-// A refusal, with its index words where the call finds.
-fn put_refusal(out: &mut [u8], at: usize, finds: bool, k: u32, w: u32) -> usize
+// A refusal of touch or look, with its index words.
+fn put_refusal(out: &mut [u8], at: usize, k: u32, w: u32) -> usize
     requires { ⌜ at + 64 ≤ length (now out) ⌝ }
-    ensures { λ r. ⌜ Wrote at (now (out .entry)) (noWord ++ (decimal k ++ wordsText finds w)) r (now (out .exit)) ⌝ }
+    ensures { λ r. ⌜ Wrote at (now (out .entry)) (noWord ++ (decimal k ++ (blank ++ decimal w))) r (now (out .exit)) ⌝ }
 {
     let next = put_pair(out, at, b"no ", k as u64);
-    if !finds {
-        return next;
-    }
     put_pair(out, next, b" ", w as u64)
 }
 
-// The text of a reply, given whether its call finds; where there isn't room nothing is written.
-pub fn say(
-    out: &mut [u8],
-    at: usize,
-    finds: bool,
-    reply: Reply,
-    bytes: &[u8],
-    records: &[u32],
-) -> usize
-    ensures { λ r. ⌜ Says finds at (now (out .entry)) reply (now (bytes .entry)) (now (records .entry)) r (now (out .exit)) ⌝ }
+// The text of a reply; where there isn't room nothing is written.
+pub fn say(out: &mut [u8], at: usize, reply: Reply, bytes: &[u8], records: &[u32]) -> usize
+    ensures { λ r. ⌜ Says at (now (out .entry)) reply (now (bytes .entry)) (now (records .entry)) r (now (out .exit)) ⌝ }
 {
     if out.len() < at {
         return at;
@@ -108,7 +98,8 @@ pub fn say(
             }
             put_regions(out, at, n, &records[..k])
         }
-        Reply::Refused(k, w) => put_refusal(out, at, finds, k, w),
+        Reply::Refused(k) => put_pair(out, at, b"no ", k as u64),
+        Reply::RefusedAfter(k, w) => put_refusal(out, at, k, w),
     }
 }
 

@@ -4,22 +4,17 @@ use mathlib.Core.List.{List}
 use Prim.Native.Nat.{ℕ}
 use lib.ListN.{length}
 use Rattle.memory.specs.Memory.{Memory}
-use Rattle.serving.specs.Requests.{Serves}
-use Rattle.serving.specs.declared.Reply.{Reply}
-use Rattle.serving.specs.declared.Request.{Request}
-use Rattle.serving.specs.declared.Request.the-variants.{Start, Mark, Drop, Touch, Look, Release, Free, Translate, Read, Write, List as Listing}
+use Rattle.serving.specs.Serves.{Serves}
+use Rattle.requests.specs.declared.Reply.{Reply}
+use Rattle.requests.specs.declared.Request.{Request}
+use Rattle.requests.specs.declared.Request.the-variants.{Start, Page, Free, Translate, Read, Write, List as Listing}
 use Rattle.parsing.specs.Fields.{Unhexed}
-use Rattle.printing.specs.Text.{finds}
 use Rattle.printing.specs.Writing.{Says}
 
 -- a write's bytes; other requests leave it
 abbrev pub Fills : Request → List ℕ → ℕ → List ℕ → List ℕ → Type 0
 Fills (Start s n f p) line count buffer buffer′ = buffer′ ≡ buffer
-Fills (Mark i b) line count buffer buffer′ = buffer′ ≡ buffer
-Fills (Drop i b) line count buffer buffer′ = buffer′ ≡ buffer
-Fills (Touch i b) line count buffer buffer′ = buffer′ ≡ buffer
-Fills (Look i b) line count buffer buffer′ = buffer′ ≡ buffer
-Fills (Release i b) line count buffer buffer′ = buffer′ ≡ buffer
+Fills (Page p i b) line count buffer buffer′ = buffer′ ≡ buffer
 Fills Free line count buffer buffer′ = buffer′ ≡ buffer
 Fills (Translate i x) line count buffer buffer′ = buffer′ ≡ buffer
 Fills (Read i x) line count buffer buffer′ = buffer′ ≡ buffer
@@ -34,4 +29,4 @@ pub record CallAnswered (q : Request) (k : Memory) (bytes records : List ℕ) (a
   pub bytes-long : length bytes′ ≡ length bytes
   pub records-long : length records′ ≡ length records
   pub serves : Serves q k bytes records reply k′ bytes′ records′
-  pub says : Says (finds q) at out reply bytes′ records′ end out′
+  pub says : Says at out reply bytes′ records′ end out′

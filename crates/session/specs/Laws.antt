@@ -15,19 +15,19 @@ use Rattle.memory.specs.Memory.{Memory, sizesOf, lengths}
 use Rattle.promise.specs.Holds.{Roomy}
 use Rattle.promise.specs.Filled.{recordsIn}
 use Rattle.demands.specs.Laws.Lent.{asked-long}
-use Rattle.serving.specs.Requests.{requested, replied, numbersOf, recordsInto}
-use Rattle.serving.specs.Laws.{records-length, numbers-length}
+use Rattle.requests.specs.Requests.{requested, replied, regionNumbers, recordsInto}
+use Rattle.requests.specs.Laws.{records-length, numbers-length}
 use Rattle.serving.specs.Steps.{RoomFor, Stands, serve-follows}
-use Rattle.serving.specs.declared.Request.{Request}
-use Rattle.serving.specs.declared.Request.the-variants.{Start, Mark, Drop, Touch, Look, Release, Free, Translate, Read, Write, List as Listing}
-use Rattle.serving.specs.declared.Reply.{Reply}
-use Rattle.serving.specs.declared.Reply.the-variants as reply-is
+use Rattle.requests.specs.declared.Request.{Request}
+use Rattle.requests.specs.declared.Request.the-variants.{Start, Page, Free, Translate, Read, Write, List as Listing}
+use Rattle.requests.specs.declared.Reply.{Reply}
+use Rattle.requests.specs.declared.Reply.the-variants as reply-is
 use Rattle.parsing.specs.Grammar.{bytesIn, allHex, parsed}
 use Rattle.parsing.specs.Fields.{hexOf, Unhexed}
 use Rattle.parsing.specs.Laws.{few-bytes, write-hex}
 use Rattle.parsing.specs.declared.Line.{Line}
 use Rattle.parsing.specs.declared.Line.the-variants.{Call, Bad}
-use Rattle.printing.specs.Text.{badLine, finds, text}
+use Rattle.printing.specs.Text.{badLine, text}
 use Rattle.printing.specs.Writing.{Wrote, shown, Roomy as Sayable, Says}
 use Rattle.session.specs.Session.{beyond, lineCall, LineAnswer, answeredCall, answeredAs, answered}
 use Rattle.session.specs.Room.{Board, Answers, AnswersLine}
@@ -69,11 +69,7 @@ start-roomy k z b limits e =
 
 pub room-found : (k : Memory) (q : Request) → Board k → beyond q ≡ false → RoomFor q k
 room-found k (Start s n f p) b limits bytes records e = start-roomy k _ b limits e
-room-found k (Mark i x) b limits bytes records e = tt
-room-found k (Drop i x) b limits bytes records e = tt
-room-found k (Touch i x) b limits bytes records e = tt
-room-found k (Look i x) b limits bytes records e = tt
-room-found k (Release i x) b limits bytes records e = tt
+room-found k (Page p i x) b limits bytes records e = tt
 room-found k Free b limits bytes records e = tt
 room-found k (Translate i x) b limits bytes records e = tt
 room-found k (Read i x) b limits bytes records e = tt
@@ -99,11 +95,7 @@ filled-bytes line n buffer buffer′ long fits hex u =
 module _ (line : List ℕ) (n : ℕ) (buffer buffer′ records : List ℕ) (l : Lent) (fits : n ≤ length buffer) (same : length buffer′ ≡ length buffer) (numbers : length records ≡ 3072) where
   pub line-call : (q : Request) → parsed line ≡ Call q n → Fills q line n buffer buffer′ → requested q (take n buffer′) records l ≡ lineCall q n line l
   line-call (Start s p f b) e fill = refl
-  line-call (Mark i b) e fill = refl
-  line-call (Drop i b) e fill = refl
-  line-call (Touch i b) e fill = refl
-  line-call (Look i b) e fill = refl
-  line-call (Release i b) e fill = refl
+  line-call (Page p i b) e fill = refl
   line-call Free e fill = refl
   line-call (Translate i x) e fill = refl
   line-call (Read i x) e fill = ap (λ (k : ℕ). read i x k l) (length-take-le n buffer′ (omega arith))
@@ -124,8 +116,9 @@ shown-fits (reply-is.Frames n) bytes records records′ e = omega arith
 shown-fits (reply-is.At p) bytes records records′ e = omega arith
 shown-fits reply-is.Bytes bytes records records′ e = omega arith
 shown-fits (reply-is.Regions n) bytes records records′ e =
-    omega (arith, ap length e, length-append (numbersOf (recordsIn n records′)) (drop (3 * length (recordsIn n records′)) records), numbers-length (recordsIn n records′), records-length n records′)
-shown-fits (reply-is.Refused k w) bytes records records′ e = omega arith
+    omega (arith, ap length e, length-append (regionNumbers (recordsIn n records′)) (drop (3 * length (recordsIn n records′)) records), numbers-length (recordsIn n records′), records-length n records′)
+shown-fits (reply-is.Refused k) bytes records records′ e = omega arith
+shown-fits (reply-is.RefusedAfter k w) bytes records records′ e = omega arith
 
 module _ (line : List ℕ) (k : Memory) (at : ℕ) (out buffer records : List ℕ) (end : ℕ) (k′ : Memory) (out′ : List ℕ) where
   -- the machine's answer is known
@@ -138,7 +131,7 @@ module _ (line : List ℕ) (k : Memory) (at : ℕ) (out buffer records : List �
   pub bad-answered : parsed line ≡ Bad → k′ ≡ k → (at + 8 ≤ length out → Wrote at out badLine end out′) → AnswersLine line k at out buffer records end k′ out′
   bad-answered e same wrote m S d = answers-as m _ (ap (λ (x : Line). answeredAs x line (lengths k) m) e) (wrote (omega (arith, d .room))) (rw same S)
 
-  pub beyond-answered : (q : Request) (n : ℕ) → parsed line ≡ Call q n → beyond q ≡ true → k′ ≡ k → Says false at out (reply-is.Refused 1 0) [] [] end out′ → AnswersLine line k at out buffer records end k′ out′
+  pub beyond-answered : (q : Request) (n : ℕ) → parsed line ≡ Call q n → beyond q ≡ true → k′ ≡ k → Says at out (reply-is.Refused 1) [] [] end out′ → AnswersLine line k at out buffer records end k′ out′
   beyond-answered q n e over same says m S d =
       answers-as m _ (called m q n true e over) (says (record { room = d .room; few-bytes = omega arith; few-records = omega arith; records-are = omega arith })) (rw same S)
 
@@ -162,4 +155,4 @@ module _ (line : List ℕ) (k : Memory) (at : ℕ) (out buffer records : List �
         few-records = omega (arith, d .numbers, a .records-long);
         records-are = shown-fits (a .reply) (a .bytes′) records (a .records′) (s .records-are);
       } in
-      answers-as m _ (called m q n false e under) (subst (λ (x : Answer). Wrote at out (text (finds q) x) end out′) told (a .says room)) (subst (λ (x : MachineCall). Stands (after m x) k′) c (f .stands))
+      answers-as m _ (called m q n false e under) (subst (λ (x : Answer). Wrote at out (text x) end out′) told (a .says room)) (subst (λ (x : MachineCall). Stands (after m x) k′) c (f .stands))

@@ -4,23 +4,19 @@ use mathlib.Core.List.{List, []}
 use Prim.Native.Nat.{ℕ, _*_}
 use lib.Dec.{leb}
 use Rattle.machine.specs.Machine as machine
-use Rattle.serving.specs.Requests.{requested}
-use Rattle.serving.specs.declared.Request.{Request}
-use Rattle.serving.specs.declared.Request.the-variants.{Start, Mark, Drop, Touch, Look, Release, Free, Translate, Read, Write, List as Listing}
+use Rattle.requests.specs.Requests.{requested}
+use Rattle.requests.specs.declared.Request.{Request}
+use Rattle.requests.specs.declared.Request.the-variants.{Start, Page, Free, Translate, Read, Write, List as Listing}
 use Rattle.parsing.specs.Grammar.{bytesIn, parsed}
 use Rattle.parsing.specs.Fields.{hexOf}
 use Rattle.parsing.specs.declared.Line.{Line}
 use Rattle.parsing.specs.declared.Line.the-variants.{Call, Bad}
-use Rattle.printing.specs.Text.{badLine, finds, text}
+use Rattle.printing.specs.Text.{badLine, text}
 
 -- "Its sizes are further limited to T at most 1,024 and F x P at most 32,768"
 abbrev pub beyond : Request → Bool
 beyond (Start s n f p) = not (leb (s * n) 1024 && leb (f * p) 32768)
-beyond (Mark i b) = false
-beyond (Drop i b) = false
-beyond (Touch i b) = false
-beyond (Look i b) = false
-beyond (Release i b) = false
+beyond (Page p i b) = false
 beyond Free = false
 beyond (Translate i x) = false
 beyond (Read i x) = false
@@ -30,11 +26,7 @@ beyond (Listing i) = false
 -- the call that a line's request is: a write has the bytes at the line's end, a read as many as its count, "`list`, with room for every region"
 abbrev pub lineCall : Request → ℕ → List ℕ → machine.Lent → machine.Call
 lineCall (Start s n f p) count line = requested (Start s n f p) [] []
-lineCall (Mark i b) count line = requested (Mark i b) [] []
-lineCall (Drop i b) count line = requested (Drop i b) [] []
-lineCall (Touch i b) count line = requested (Touch i b) [] []
-lineCall (Look i b) count line = requested (Look i b) [] []
-lineCall (Release i b) count line = requested (Release i b) [] []
+lineCall (Page p i b) count line = requested (Page p i b) [] []
 lineCall Free count line = requested Free [] []
 lineCall (Translate i x) count line = requested (Translate i x) [] []
 lineCall (Read i x) count line = machine.read i x count
@@ -48,10 +40,10 @@ pub record LineAnswer : Type 0 where
 
 -- "A start beyond the limits gives `no 1`"
 abbrev pub answeredCall : Request → ℕ → List ℕ → machine.Lent → machine.State → Bool → LineAnswer
-answeredCall q count line l m true = record { answer-text = text false (machine.refused 1 0); after = m }
+answeredCall q count line l m true = record { answer-text = text (machine.refused 1); after = m }
 answeredCall q count line l m false =
     let c = lineCall q count line l in
-    record { answer-text = text (finds q) (machine.answer m c); after = machine.after m c }
+    record { answer-text = text (machine.answer m c); after = machine.after m c }
 
 -- "A line it can't read gives `bad line`"
 abbrev pub answeredAs : Line → List ℕ → machine.Lent → machine.State → LineAnswer

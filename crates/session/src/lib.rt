@@ -1,13 +1,13 @@
 // A session: one line in, its answer out. Who reads lines and writes answers stands on it.
-mod requests;
+mod ahead;
 
 use memory::Head;
 use parsing::Line;
 use parsing::parse;
 use printing::say;
 use printing::say_bad_line;
-use serving::Reply;
-use serving::Request;
+use requests::Reply;
+use requests::Request;
 use serving::serve;
 ghost use Rattle.memory.specs.Memory.{memory};
 ghost use Rattle.session.specs.Filling.{CallAnswered};
@@ -59,7 +59,7 @@ fn answer_call(
     );
     let next = served.head;
     let reply = served.reply;
-    let end = say(out, at, requests::is_find(request), reply, bytes, records);
+    let end = say(out, at, reply, bytes, records);
     Answered { head: next, end }
 }
 
@@ -95,14 +95,13 @@ pub fn answer_line(
             end: say_bad_line(out, at),
         };
     };
-    if requests::is_beyond(request) {
+    if ahead::is_beyond(request) {
         return Answered {
             head,
             end: say(
                 out,
                 at,
-                false,
-                Reply::Refused(1, 0),
+                Reply::Refused(1),
                 &buffer[..0],
                 &records[..0],
             ),
@@ -111,7 +110,7 @@ pub fn answer_line(
     if buffer.len() < n {
         return Answered { head, end: at };
     }
-    requests::fill(request, line, n, buffer);
+    ahead::fill(request, line, n, buffer);
     answer_call(
         head,
         request,

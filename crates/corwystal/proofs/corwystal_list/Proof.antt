@@ -17,16 +17,16 @@ use Rattle.machine.specs.declared.Region.{Region}
 use Rattle.promise.specs.Filled.{recordsFilled}
 use Rattle.machine.proofs.Listed as R
 use Rattle.machine.proofs.Listed.Laws as R′
-use Rattle.coding.proofs.Answer as X
-use Rattle.coding.proofs.Answer.Laws as X′
+use Rattle.requests.proofs.Answer as X
+use Rattle.requests.proofs.Answer.Laws as X′
 use Rattle.board.proofs.list as g
 use Rattle.board.proofs.list.Symbol as g-def
 use Rattle.board.proofs.list.Symbol.{name as #g}
 use Rattle.board.proofs.list.Met as g-thm
-use Rattle.coding.proofs.of_listed as h
-use Rattle.coding.proofs.of_listed.Symbol as h-def
-use Rattle.coding.proofs.of_listed.Symbol.{name as #h}
-use Rattle.coding.proofs.of_listed.Met as h-thm
+use Rattle.requests.proofs.encode_listed as h
+use Rattle.requests.proofs.encode_listed.Symbol as h-def
+use Rattle.requests.proofs.encode_listed.Symbol.{name as #h}
+use Rattle.requests.proofs.encode_listed.Met as h-thm
 use Rattle.board.proofs.Walks.{Kind, word, shared, unique, typesOf, spellsOf, tellsOf, typedOf, meets, enters, others, relend, arg}
 use Rattle.corwystal.proofs.Passing.{hands-over, codes, told, as-long}
 use Rattle.corwystal.proofs.corwystal_list.Key.{name as #f}
@@ -72,4 +72,4 @@ corwystal-list-spec 𝓤 H 𝓜 𝓖 𝓡 =
     (tables 𝓤 H 𝓜 𝓡 code.env .C) (tables 𝓤 H 𝓜 𝓡 code.env .Λ) #f code.function (code.unfolded 𝓤 H 𝓜 𝓡)
     (f-meets 𝓤 H (𝓖 .A) (givenOf 𝓤 H 𝓜 𝓖) (𝓜 .mem) (𝓡 .run) (tablesOf 𝓤 H 𝓜 (tables 𝓤 H 𝓜 𝓡 code.env))
     (cited 𝓤 H (Callee 𝓤 H (𝓖 .A) (𝓜 .mem) (𝓡 .run)) 𝓜 𝓡 code.env #g g-def.routine code.calls-board·list (g-thm.met 𝓤 H 𝓜 𝓖 𝓡))
-    (cited 𝓤 H (Coding 𝓤 H (𝓖 .A) (𝓜 .mem) (𝓡 .run)) 𝓜 𝓡 code.env #h h-def.routine code.calls-coding·of-listed (h-thm.met 𝓤 H 𝓜 𝓖 𝓡)))
+    (cited 𝓤 H (Coding 𝓤 H (𝓖 .A) (𝓜 .mem) (𝓡 .run)) 𝓜 𝓡 code.env #h h-def.routine code.calls-requests·encode-listed (h-thm.met 𝓤 H 𝓜 𝓖 𝓡)))

@@ -14,16 +14,16 @@ use denote.Builtin.{usize}
 use denote.Slice.{finally}
 use Rattle.machine.proofs.Copied as R
 use Rattle.machine.proofs.Copied.Laws as R′
-use Rattle.coding.proofs.Answer as X
-use Rattle.coding.proofs.Answer.Laws as X′
+use Rattle.requests.proofs.Answer as X
+use Rattle.requests.proofs.Answer.Laws as X′
 use Rattle.board.proofs.read as g
 use Rattle.board.proofs.read.Symbol as g-def
 use Rattle.board.proofs.read.Symbol.{name as #g}
 use Rattle.board.proofs.read.Met as g-thm
-use Rattle.coding.proofs.of_copied as h
-use Rattle.coding.proofs.of_copied.Symbol as h-def
-use Rattle.coding.proofs.of_copied.Symbol.{name as #h}
-use Rattle.coding.proofs.of_copied.Met as h-thm
+use Rattle.requests.proofs.encode_copied as h
+use Rattle.requests.proofs.encode_copied.Symbol as h-def
+use Rattle.requests.proofs.encode_copied.Symbol.{name as #h}
+use Rattle.requests.proofs.encode_copied.Met as h-thm
 use Rattle.board.proofs.Walks.{Kind, word, shared, unique, typesOf, spellsOf, tellsOf, typedOf, meets, enters, others, relend, arg}
 use Rattle.corwystal.proofs.Passing.{hands-over, codes, told, measures, number, further, as-long}
 use Rattle.corwystal.proofs.corwystal_read.Key.{name as #f}
@@ -66,4 +66,4 @@ corwystal-read-spec 𝓤 H 𝓜 𝓖 𝓡 =
     (tables 𝓤 H 𝓜 𝓡 code.env .C) (tables 𝓤 H 𝓜 𝓡 code.env .Λ) #f code.function (code.unfolded 𝓤 H 𝓜 𝓡)
     (f-meets 𝓤 H (𝓖 .A) (givenOf 𝓤 H 𝓜 𝓖) (𝓜 .mem) (𝓡 .run) (tablesOf 𝓤 H 𝓜 (tables 𝓤 H 𝓜 𝓡 code.env))
     (cited 𝓤 H (Callee 𝓤 H (𝓖 .A) (𝓜 .mem) (𝓡 .run)) 𝓜 𝓡 code.env #g g-def.routine code.calls-board·read (g-thm.met 𝓤 H 𝓜 𝓖 𝓡))
-    (cited 𝓤 H (Coding 𝓤 H (𝓖 .A) (𝓜 .mem) (𝓡 .run)) 𝓜 𝓡 code.env #h h-def.routine code.calls-coding·of-copied (h-thm.met 𝓤 H 𝓜 𝓖 𝓡)))
+    (cited 𝓤 H (Coding 𝓤 H (𝓖 .A) (𝓜 .mem) (𝓡 .run)) 𝓜 𝓡 code.env #h h-def.routine code.calls-requests·encode-copied (h-thm.met 𝓤 H 𝓜 𝓖 𝓡)))

@@ -8,16 +8,16 @@ use denote.Struct.Laws as LL
 use Rattle.memory.proofs.Head as T
 use Rattle.machine.proofs.Touched as R
 use Rattle.machine.proofs.Touched.Laws as R′
-use Rattle.coding.proofs.Answer as X
-use Rattle.coding.proofs.Answer.Laws as X′
+use Rattle.requests.proofs.Answer as X
+use Rattle.requests.proofs.Answer.Laws as X′
 use Rattle.board.proofs.touch as g
 use Rattle.board.proofs.touch.Symbol as g-def
 use Rattle.board.proofs.touch.Symbol.{name as #g}
 use Rattle.board.proofs.touch.Met as g-thm
-use Rattle.coding.proofs.of_touched as h
-use Rattle.coding.proofs.of_touched.Symbol as h-def
-use Rattle.coding.proofs.of_touched.Symbol.{name as #h}
-use Rattle.coding.proofs.of_touched.Met as h-thm
+use Rattle.requests.proofs.encode_touched as h
+use Rattle.requests.proofs.encode_touched.Symbol as h-def
+use Rattle.requests.proofs.encode_touched.Symbol.{name as #h}
+use Rattle.requests.proofs.encode_touched.Met as h-thm
 use Rattle.board.proofs.Walks.{Kind, word, shared, unique, typesOf, spellsOf, tellsOf, typedOf, meets, enters, relend, arg}
 use Rattle.corwystal.proofs.Passing.{relends-head, hands-over, codes, told, plainly}
 use Rattle.corwystal.proofs.corwystal_touch.Key.{name as #f}
@@ -65,4 +65,4 @@ corwystal-touch-spec 𝓤 H 𝓜 𝓖 𝓡 =
     (tables 𝓤 H 𝓜 𝓡 code.env .C) (tables 𝓤 H 𝓜 𝓡 code.env .Λ) #f code.function (code.unfolded 𝓤 H 𝓜 𝓡)
     (f-meets 𝓤 H (𝓖 .A) (givenOf 𝓤 H 𝓜 𝓖) (𝓜 .mem) (𝓡 .run) (tablesOf 𝓤 H 𝓜 (tables 𝓤 H 𝓜 𝓡 code.env))
     (cited 𝓤 H (Callee 𝓤 H (𝓖 .A) (𝓜 .mem) (𝓡 .run)) 𝓜 𝓡 code.env #g g-def.routine code.calls-board·touch (g-thm.met 𝓤 H 𝓜 𝓖 𝓡))
-    (cited 𝓤 H (Coding 𝓤 H (𝓖 .A) (𝓜 .mem) (𝓡 .run)) 𝓜 𝓡 code.env #h h-def.routine code.calls-coding·of-touched (h-thm.met 𝓤 H 𝓜 𝓖 𝓡)))
+    (cited 𝓤 H (Coding 𝓤 H (𝓖 .A) (𝓜 .mem) (𝓡 .run)) 𝓜 𝓡 code.env #h h-def.routine code.calls-requests·encode-touched (h-thm.met 𝓤 H 𝓜 𝓖 𝓡)))

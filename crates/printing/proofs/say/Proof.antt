@@ -41,13 +41,19 @@ returns-7 : tie.Need-returns-7
 returns-7 c = λ r. rw (c .before .before .before .before .before .enum-told .given .1) (c .before .before .put .ensures)
 
 returns-8 : tie.Need-returns-8
-returns-8 c = λ r. rw (c .before .before .before .before .before .before .before .before .before .before .before .reply .given .1) (wrote-more (c .before .before .before .before .before .before .before .put-pair .ensures .0) (c .before .before .put2 .ensures))
+returns-8 c =
+    let t = c .before .before .before .before .before .before .before in
+    λ r. rw (t .before .before .before .before .reply .given .1) (wrote-more (t .put-pair .ensures .0) (c .before .before .put2 .ensures))
 
 returns-9 : tie.Need-returns-9
-returns-9 c = λ r. rw (c .before .before .before .before .before .before .before .before .before .before .before .reply2 .given .1) (wrote-more (c .before .before .before .before .before .before .before .put-pair2 .ensures .0) (c .before .before .put-pair3 .ensures .0))
+returns-9 c =
+    let t = c .before .before .before .before .before .before .before in
+    λ r. rw (t .before .before .before .before .reply2 .given .1) (wrote-more (t .put-pair2 .ensures .0) (c .before .before .put-pair3 .ensures .0))
 
 returns-10 : tie.Need-returns-10
-returns-10 c = λ r. rw (c .before .before .before .before .before .before .before .before .before .before .before .reply3 .given .1) (wrote-more (c .before .before .before .before .before .before .before .put-pair4 .ensures .0) (c .before .before .put3 .ensures))
+returns-10 c =
+    let t = c .before .before .before .before .before .before .before in
+    λ r. rw (t .before .before .before .before .reply3 .given .1) (wrote-more (t .put-pair4 .ensures .0) (c .before .before .put3 .ensures))
 
 returns-11 : tie.Need-returns-11
 returns-11 c = λ r. rw (c .before .before .before .before .before .before .reply4 .given .1) (c .before .before .put-pair5 .ensures .0)
@@ -67,12 +73,17 @@ returns-15 c = λ r. rw (c .before .before .before .before .enum-told2 .given .1
 returns-16 : tie.Need-returns-16
 returns-16 c =
     λ r.
-    let a = c .before .before .before .before .before .before .before .before .before .before .before .before .before .before .before .before .before .args in
-    let n = c .before .before .before .before .before .before .before .before .reply8 in
-    rw (n .given .1, regions-text (a .finds) (n .given .0 .0) (a .bytes .now) (a .records .now) (c .before .before .before .before .before .if6 .left)) (c .before .before .put-regions .ensures)
+    let t = c .before .before .before .before .before .before .before .before in
+    let a = t .before .before .before .before .before .before .before .before .before .args in
+    let n = t .reply8 in
+    rw (n .given .1, regions-text (n .given .0 .0) (a .bytes .now) (a .records .now) (c .before .before .before .before .before .if6 .left))
+    (c .before .before .put-regions .ensures)
 
 returns-17 : tie.Need-returns-17
-returns-17 c = λ r. rw (c .before .before .before .before .before .reply9 .given .1) (c .before .before .put-refusal .ensures)
+returns-17 c = λ r. rw (c .before .before .before .before .before .before .reply9 .given .1) (c .before .before .put-pair9 .ensures .0)
+
+returns-18 : tie.Need-returns-18
+returns-18 c = λ r. rw (c .before .before .before .before .before .reply10 .given .1) (c .before .before .put-refusal .ensures)
 
 pub say-spec : {M : Type 1} → statement M
 say-spec =
@@ -130,6 +141,10 @@ say-spec =
     slice-aggregate-put-regions
     put-regions-requires
     (λ c. search needs)
+    (λ c. search needs)
+    (λ c. search needs)
+    (λ c κs. search needs)
+    (λ c. search needs)
     (λ c κs. search needs)
     (λ c. search needs)
     returns-7
@@ -152,4 +167,6 @@ say-spec =
     (λ c. search needs)
     returns-16
     (λ c. search needs)
-    returns-17)
+    returns-17
+    (λ c. search needs)
+    returns-18)

@@ -11,16 +11,16 @@ returns c = rw (failed (c .before .is-small .ensures) (c .if1 .taken))
 returns-2 : tie.Need-returns-2
 returns-2 c = rw (held (c .before .before .before .is-small .ensures) (c .before .before .if1 .left), failed (c .before .is-small2 .ensures) (c .if2 .taken))
 
-cast-page-request : tie.Need-cast-page-request
-cast-page-request c = small (c .before .before .before .is-small .ensures) (c .before .before .if1 .left)
+cast-t6 : tie.Need-cast-t6
+cast-t6 c = small (c .before .before .before .is-small .ensures) (c .before .before .if1 .left)
 
-cast-page-request-2 : tie.Need-cast-page-request-2
-cast-page-request-2 c = small (c .before .is-small2 .ensures) (c .if2 .left)
+cast-t7 : tie.Need-cast-t7
+cast-t7 c = small (c .before .is-small2 .ensures) (c .if2 .left)
 
 returns-3 : tie.Need-returns-3
 returns-3 c =
-    let here = c .before .before in
-    rw (held (here .before .before .before .is-small .ensures) (here .before .before .if1 .left), held (here .before .is-small2 .ensures) (here .if2 .left), c .before .page-request .ensures, c .no-parts .ensures)
+    let here = c .before in
+    rw (held (here .before .before .before .is-small .ensures) (here .before .before .if1 .left), held (here .before .is-small2 .ensures) (here .if2 .left), c .no-parts .ensures)
 
 pub page-code-spec : {M : Type 1} → statement M
 page-code-spec =
@@ -30,8 +30,7 @@ page-code-spec =
     returns
     (λ c κs. search needs)
     returns-2
-    cast-page-request
-    cast-page-request-2
-    (λ c κs. search needs)
+    cast-t6
+    cast-t7
     (λ c κs. search needs)
     returns-3)

@@ -5,8 +5,8 @@ use Prim.Native.Nat.{ℕ}
 use native.Mathlib.Omega.{arith}
 use lib.ListN.{length, set}
 use borrow.Author.Needs.{needs}
-use Rattle.codes.proofs.encoding.put.Statement.{statement}
-use Rattle.codes.proofs.encoding.put.Tie as tie
+use Rattle.codes.proofs.put.Statement.{statement}
+use Rattle.codes.proofs.put.Tie as tie
 
 all-set : (l : List ℕ) (a b c : ℕ) → length l ≡ 3 → set (set (set l 0 a) 1 b) 2 c ≡ a ∷ b ∷ c ∷ []
 all-set (x ∷ y ∷ z ∷ []) a b c e = refl
@@ -16,9 +16,9 @@ all-set (x ∷ y ∷ []) a b c e = absurd (omega arith)
 all-set (x ∷ y ∷ z ∷ w ∷ l) a b c e = absurd (omega arith)
 
 returns : tie.Need-returns
-returns c = all-set (c .args .reply .now) _ _ _ (c .pre)
+returns c = all-set (c .before .before .args .reply .now) _ _ _ (c .before .before .pre)
 
 pub put-spec : {M : Type 1} → statement M
 put-spec =
     tie.close
-    (tie.spec (λ c. search needs) (λ c. search needs) (λ c. search needs) (λ c. search needs) returns)
+    (tie.spec (λ c. search needs) (λ c. search needs) (λ c. search needs) (λ c. search needs) (λ c. search needs) (λ c. search needs) returns)

@@ -1,11 +1,10 @@
-// What a session asks of a request besides the call itself.
+// What a session does ahead of a call: the limits of a start, the bytes of a write.
 use parsing::unhex;
-use serving::Request;
+use requests::Request;
 ghost use mathlib.Core.Bool.{not, _&&_};
 ghost use mathlib.Core.Path.{_≡_};
 ghost use Prim.Native.Nat.{_*_};
 ghost use lib.Dec.{leb};
-ghost use Rattle.printing.specs.Text.{finds};
 ghost use Rattle.session.specs.Session.{beyond};
 ghost use Rattle.session.specs.Filling.{Fills};
 
@@ -24,30 +23,7 @@ pub(crate) fn is_beyond(request: Request) -> bool
 {
     match request {
         Request::Start(s, n, f, p) => is_large(s, n, f, p),
-        Request::Mark(_, _) => false,
-        Request::Drop(_, _) => false,
-        Request::Touch(_, _) => false,
-        Request::Look(_, _) => false,
-        Request::Release(_, _) => false,
-        Request::Free => false,
-        Request::Translate(_, _) => false,
-        Request::Read(_, _) => false,
-        Request::Write(_, _) => false,
-        Request::List(_) => false,
-    }
-}
-
-// Whether its refusals have index words.
-pub(crate) fn is_find(request: Request) -> bool
-    ensures { λ r. ⌜ r ≡ finds request ⌝ }
-{
-    match request {
-        Request::Start(_, _, _, _) => false,
-        Request::Mark(_, _) => false,
-        Request::Drop(_, _) => false,
-        Request::Touch(_, _) => true,
-        Request::Look(_, _) => true,
-        Request::Release(_, _) => false,
+        Request::Page(_, _, _) => false,
         Request::Free => false,
         Request::Translate(_, _) => false,
         Request::Read(_, _) => false,
@@ -63,11 +39,7 @@ pub(crate) fn fill(request: Request, line: &[u8], n: usize, buffer: &mut [u8])
     match request {
         Request::Write(_, _) => unhex(line, n, buffer),
         Request::Start(_, _, _, _) => {}
-        Request::Mark(_, _) => {}
-        Request::Drop(_, _) => {}
-        Request::Touch(_, _) => {}
-        Request::Look(_, _) => {}
-        Request::Release(_, _) => {}
+        Request::Page(_, _, _) => {}
         Request::Free => {}
         Request::Translate(_, _) => {}
         Request::Read(_, _) => {}
