@@ -156,7 +156,7 @@ pub fn free(head: &Head) -> Free
     ensures { λ r. ⌜ ((index count table helper stack cache link ram : List ℕ) →
         Did (λ _. machine.free) (memory (now (head .entry)) index count table helper stack cache link ram) (freeSays r) (memory (now (head .entry)) index count table helper stack cache link ram)) ⌝ }
 {
-    marking::free(*head)
+    pool::free(*head)
 }
 
 // The place in RAM of an address.

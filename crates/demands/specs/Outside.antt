@@ -9,7 +9,7 @@ use Rattle.machine.specs.Claims.{blind, Same}
 use Rattle.memory.specs.Memory.{Memory}
 use Rattle.promise.specs.Holds.{Holds}
 use Rattle.promise.specs.Did.{Did}
-use Rattle.laws.specs.Writing.{withBytes}
+use Rattle.laws.specs.Bytes.{withBytes}
 use Rattle.demands.specs.History.{Event, played, calls, Step, Beginning}
 
 -- a call; or a write from outside, after which the RAM holds these bytes

@@ -17,7 +17,7 @@ use Rattle.promise.specs.Filled.{recordsIn, recordsFilled, ListDid}
 use Rattle.laws.specs.Models.{lentTo, checkOf}
 use Rattle.laws.specs.Checking.{Ready, ready}
 use Rattle.laws.specs.Finds.{index-passes}
-use Rattle.laws.specs.Listing.{recordsBelow, list-refused, list-short, list-filled}
+use Rattle.listing.specs.Listing.{recordsBelow, list-refused, list-short, list-filled}
 use Rattle.listing.specs.declared.Surveyed.{Surveyed}
 use Rattle.listing.specs.Steps.{Indexed, Counted, Many, Tellable, Surveys, refusedWith, Fills}
 

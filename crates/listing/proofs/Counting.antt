@@ -5,7 +5,7 @@ use Prim.Native.Nat.{ℕ, _+_, _≤_, _<_}
 use native.Mathlib.Omega.{arith}
 use lib.ListN.{length, length-append}
 use Rattle.machine.specs.Machine.{State}
-use Rattle.laws.specs.Listing.{recordOf, recordsBelow, last-record, no-record}
+use Rattle.listing.specs.Listing.{recordOf, recordsBelow, last-record, no-record}
 use Rattle.listing.specs.declared.Below.{Below}
 use Rattle.listing.specs.declared.Below.the-variants.{Start, Nothing}
 use Rattle.listing.specs.Steps.{Indexed, StartBelow, Many}

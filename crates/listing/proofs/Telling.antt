@@ -7,7 +7,7 @@ use lib.ListN.{length}
 use Rattle.machine.specs.Machine.{State, region}
 use Rattle.machine.specs.declared.Region.{Region}
 use Rattle.memory.specs.Memory.{at}
-use Rattle.laws.specs.Listing.{recordOf, recordsBelow}
+use Rattle.listing.specs.Listing.{recordOf, recordsBelow}
 use Rattle.listing.specs.declared.Below.{Below}
 use Rattle.listing.specs.declared.Below.the-variants.{Start, Nothing}
 use Rattle.listing.specs.declared.Cursor.{Cursor}

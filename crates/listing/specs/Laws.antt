@@ -5,7 +5,7 @@ use Prim.Native.Nat.{ℕ, _+_, _≤_}
 use native.Mathlib.Omega.{arith}
 use lib.ListN.{length}
 use Rattle.machine.specs.declared.Region.{Region}
-use Rattle.laws.specs.Listing.{recordsBelow}
+use Rattle.listing.specs.Listing.{recordsBelow}
 use Rattle.listing.specs.declared.Cursor.{Cursor}
 use Rattle.listing.specs.declared.Told.{Told}
 use Rattle.listing.specs.Steps.{Shows, Tellable, Tells}

@@ -15,7 +15,7 @@ use Rattle.memory.specs.Memory.{memory, at}
 use Rattle.memory.specs.declared.Head.{Head}
 use Rattle.promise.specs.Did.{Did}
 use Rattle.promise.specs.Filled.{recordsIn, recordsFilled}
-use Rattle.laws.specs.Listing.{recordsBelow}
+use Rattle.listing.specs.Listing.{recordsBelow}
 use Rattle.listing.specs.declared.Below.{Below}
 use Rattle.listing.specs.declared.Below.the-variants.{Start, Nothing}
 use Rattle.listing.specs.declared.Cursor.{Cursor}

@@ -1,4 +1,3 @@
 pub mod Starting
 pub mod Placing
 pub mod Pages
-pub mod Pool

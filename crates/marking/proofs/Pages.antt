@@ -15,7 +15,7 @@ use Rattle.promise.specs.Did.{Did}
 use Rattle.laws.specs.Models.{lentTo, checkOf}
 use Rattle.laws.specs.Refusals.{check-passes}
 use Rattle.laws.specs.Checking.{Ready, ready, checked-no, checked-yes}
-use Rattle.laws.specs.Marking.{mark-did, drop-did}
+use Rattle.marking.specs.Marking.{mark-did, drop-did}
 use Rattle.marking.specs.Steps.{Searchable, MarkedAt, DroppedAt}
 
 module _ (h : Head) (i b : ℕ) (l : Lengths) (number : ℕ) (check : number ≡ checkOf h l i (ltb b (h .pages))) where

@@ -15,9 +15,10 @@ use Rattle.memory.specs.Memory.{memory, sizesOf}
 use Rattle.memory.specs.declared.Head.{Head}
 use Rattle.memory.specs.declared.Lengths.{Lengths}
 use Rattle.promise.specs.Did.{Did}
-use Rattle.laws.specs.Models.{lentTo, checkOf, changeSays, startHead}
+use Rattle.laws.specs.Models.{lentTo, checkOf}
+use Rattle.marking.specs.Models.{changeSays, startHead}
 use Rattle.laws.specs.Checking.{checked-no, checked-yes, ready}
-use Rattle.laws.specs.Marking.{start-did}
+use Rattle.marking.specs.Marking.{start-did}
 use Rattle.marking.specs.Steps.{sizes, Beginnable, Begins}
 
 pub begins : (next : Head) (t : ℕ) (ws count : List ℕ) (d : Change) (a : Answer) (ws′ count′ : List ℕ) → t ≡ places (sizesOf next)

@@ -7,7 +7,6 @@ use index::Change;
 use index::Found;
 use index::Membership;
 use machine::Done;
-use machine::Free;
 use machine::MadeSize;
 use machine::PageSize;
 use memory::ANY;
@@ -22,7 +21,8 @@ ghost use Rattle.machine.specs.Machine as machine;
 ghost use Rattle.machine.specs.Answers.{doneSays, freeSays};
 ghost use Rattle.memory.specs.Memory.{memory};
 ghost use Rattle.promise.specs.Did.{Did};
-ghost use Rattle.laws.specs.Models.{lentTo, changeSays};
+ghost use Rattle.laws.specs.Models.{lentTo};
+ghost use Rattle.marking.specs.Models.{changeSays};
 ghost use Rattle.marking.specs.Steps.{sizes, Beginnable, Begins, Searchable, CutPages, MarkedAt, DroppedAt};
 
 // The lengths of a call that is lent the index and the resident counts.
@@ -218,21 +218,4 @@ pub fn drop(head: Head, space: u32, page: u32, index: &mut [u64], count: &[u32])
         return Done::Refused(no);
     }
     drop_at(index, count, all_places(head), place(head, space, page))
-}
-
-// The frames in the pool. Lent nothing but the head.
-pub fn free(head: Head) -> Free
-    ensures { λ r. ⌜ ((index count table helper stack cache link ram : List ℕ) →
-        Did (λ _. machine.free) (memory head index count table helper stack cache link ram) (freeSays r) (memory head index count table helper stack cache link ram)) ⌝ }
-{
-    if !sizes_ok(head) {
-        return Free::Refused(1);
-    }
-    if head.frames < head.many {
-        return Free::Refused(9);
-    }
-    if head.frames < head.fresh {
-        return Free::Refused(9);
-    }
-    Free::Frames(head.many + (head.frames - head.fresh))
 }

@@ -10,7 +10,7 @@ pub use marking::drop;
 // Looks a page up: Resident with its frame, or Absent with the index words read. Refused, with the words: 1, 2, 3; 4, no region; 9.
 pub use lookup::look;
 // Counts the pool: Frames. Refused: 1, 9.
-pub use marking::free;
+pub use pool::free;
 // The page's frame: Old for a resident page, New with the index words for one just mapped. Refused, with the words: 1, 2, 3; 4, no region;
 // 8, no frame left; 9.
 pub use touching::touch;

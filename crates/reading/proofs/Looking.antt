@@ -9,7 +9,7 @@ use Rattle.machine.specs.declared.Looked.{Looked}
 use Rattle.machine.specs.declared.Looked.the-variants.{Resident}
 use Rattle.memory.specs.Memory.{Memory}
 use Rattle.promise.specs.Did.{Did}
-use Rattle.laws.specs.Reading.{ResidentTo, resident-none, resident-more}
+use Rattle.reading.specs.Reading.{ResidentTo, resident-none, resident-more}
 
 -- the loop's state: the pages from `first` to before `page` are resident, whatever the link
 pub record Looking (k : List ℕ → Memory) (i first end page : ℕ) : Type 0 where

@@ -8,9 +8,9 @@ use borrow.Author.Tests.{lt-ltb, le-leb}
 use lib.Dec.{leb}
 use Rattle.memory.specs.Memory.{at}
 use Rattle.memory.specs.declared.Head.{Head}
-use Rattle.memory.specs.declared.Cut.the-variants.{Empty, At, Refused}
-use Rattle.laws.specs.Models.{cutOk, cutIf}
-use Rattle.laws.specs.Releasing.{Cuttable, cut-says}
+use Rattle.releasing.specs.declared.Cut.the-variants.{Empty, At, Refused}
+use Rattle.releasing.specs.Models.{cutOk, cutIf}
+use Rattle.releasing.specs.Releasing.{Cuttable, cut-says}
 
 -- ---- the test
 

@@ -15,14 +15,15 @@ use Rattle.machine.specs.Laws.Sizes.{fit, place-below}
 use Rattle.memory.specs.Memory.{Memory, memory, at, sizesOf}
 use Rattle.memory.specs.declared.Head.{Head}
 use Rattle.memory.specs.declared.Lengths.{Lengths}
-use Rattle.memory.specs.declared.Spliced.{Spliced}
-use Rattle.memory.specs.declared.Cut.{Cut}
-use Rattle.memory.specs.declared.Cut.the-variants as cut-is
+use Rattle.releasing.specs.declared.Spliced.{Spliced}
+use Rattle.releasing.specs.declared.Cut.{Cut}
+use Rattle.releasing.specs.declared.Cut.the-variants as cut-is
 use Rattle.promise.specs.Did.{Did}
-use Rattle.laws.specs.Models.{checkOf, releaseLengths, pageInside, cutOk, cutIf, cutFor, cutSays, cutLeaves, Releases, Checked}
+use Rattle.laws.specs.Models.{checkOf, releaseLengths, pageInside, Checked}
+use Rattle.releasing.specs.Models.{cutOk, cutIf, cutFor, cutSays, cutLeaves, Releases}
 use Rattle.laws.specs.Checking as checking
-use Rattle.laws.specs.Releasing.{cut-says, release-did}
-use Rattle.touching.specs.Fits.{Top}
+use Rattle.releasing.specs.Releasing.{cut-says, release-did}
+use Rattle.pool.specs.Takes.{Top}
 use Rattle.releasing.specs.Cuts.{Spliceable, Splices, CutOfIf, CutOf}
 
 -- ---- a release that passed the checks

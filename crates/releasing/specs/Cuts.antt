@@ -8,12 +8,14 @@ use Rattle.index.specs.Promise.{Asked}
 use Rattle.machine.specs.Machine.{places, placeOf}
 use Rattle.memory.specs.Memory.{Memory, memory, at, sizesOf}
 use Rattle.memory.specs.declared.Head.{Head}
-use Rattle.memory.specs.declared.Spliced.{Spliced}
-use Rattle.memory.specs.declared.Cut.{Cut}
-use Rattle.memory.specs.declared.Cut.the-variants as cut-is
-use Rattle.laws.specs.Models.{checkOf, releaseLengths, pageInside, cutFor, newestOf, oldestOf}
+use Rattle.releasing.specs.declared.Spliced.{Spliced}
+use Rattle.releasing.specs.declared.Cut.{Cut}
+use Rattle.releasing.specs.declared.Cut.the-variants as cut-is
+use Rattle.laws.specs.Models.{checkOf, releaseLengths, pageInside}
+use Rattle.releasing.specs.Models.{cutFor, oldestOf}
+use Rattle.pool.specs.Models.{newestOf, withChain}
 use Rattle.laws.specs.Checking.{OnCheck}
-use Rattle.touching.specs.Fits.{Top}
+use Rattle.pool.specs.Takes.{Top}
 
 -- ---- the splice
 
@@ -26,22 +28,10 @@ pub record Spliceable (h : Head) (count table stack link : List ℕ) (a : ℕ) :
   pub top : Top table stack a (at count a)
   pub fits : h .many + at count a ≤ 65536
 
-abbrev pub splicedHead : Head → List ℕ → List ℕ → List ℕ → ℕ → Head
-splicedHead h count table stack a =
-    record {
-      spaces = h .spaces;
-      pages = h .pages;
-      frames = h .frames;
-      page = h .page;
-      first = newestOf table stack a (at count a);
-      many = h .many + at count a;
-      fresh = h .fresh;
-    }
-
 -- the region at a is given back: r is its pages and the head with their frames, and one count and one link have changed
 pub record Splices (h : Head) (count table stack link : List ℕ) (a : ℕ) (r : Spliced) (count′ link′ : List ℕ) : Type 0 where
   pub pages-is : r .pages ≡ at count a
-  pub head-is : r .head ≡ splicedHead h count table stack a
+  pub head-is : r .head ≡ withChain h (newestOf table stack a (at count a)) (at count a)
   pub count-is : count′ ≡ set count a 0
   pub link-is : link′ ≡ set link (oldestOf table stack a) (h .first)
 

@@ -6,11 +6,9 @@ use checks::wide;
 use index::Membership;
 use machine::Released;
 use memory::ANY;
-use memory::Cut;
 use memory::Head;
 use memory::Lengths;
 use memory::ReleaseOut;
-use memory::Spliced;
 ghost use mathlib.Core.Path.{_≡_};
 ghost use mathlib.Core.List.{List};
 ghost use Prim.Native.Nat.{ℕ, _+_, _<_, _≤_};
@@ -19,8 +17,21 @@ ghost use Rattle.machine.specs.Machine as machine;
 ghost use Rattle.machine.specs.Answers.{releasedSays};
 ghost use Rattle.memory.specs.Memory.{memory, at};
 ghost use Rattle.promise.specs.Did.{Did};
-ghost use Rattle.laws.specs.Models.{cutOk, cutIf};
+ghost use Rattle.releasing.specs.Models.{cutOk, cutIf};
 ghost use Rattle.releasing.specs.Cuts.{Spliceable, Splices, CutOf};
+
+// What a release is to do: nothing for an empty region; give back the pages of the one at a place.
+pub enum Cut {
+    Empty,
+    At(usize),
+    Refused(u32),
+}
+
+// The pages given back, and the head with their frames.
+pub struct Spliced {
+    pub pages: u32,
+    pub head: Head,
+}
 
 // Whether the words that a release of the region at a with n pages needs are where they may be.
 fn cuttable(h: Head, table: &[u32], stack: &[u32], t: usize, a: usize, n: usize) -> bool
@@ -109,21 +120,9 @@ fn splice(
     let n = count[a];
     let first = wide(stack[a]);
     let oldest = table[first];
-    let newest = touching::newest(table, stack, a, wide(n));
-    let many = h.many + n;
-    let page = h.page;
-    let end = wide(oldest);
-    link[end] = h.first;
+    let newest = pool::newest(table, stack, a, wide(n));
     count[a] = 0;
-    let head = Head {
-        spaces: h.spaces,
-        pages: h.pages,
-        frames: h.frames,
-        page,
-        first: newest,
-        many,
-        fresh: h.fresh,
-    };
+    let head = pool::put_back(h, link, newest, wide(oldest), n);
     Spliced { pages: n, head }
 }
 

@@ -98,13 +98,7 @@ pub fn answer_line(
     if ahead::is_beyond(request) {
         return Answered {
             head,
-            end: say(
-                out,
-                at,
-                Reply::Refused(1),
-                &buffer[..0],
-                &records[..0],
-            ),
+            end: say(out, at, Reply::Refused(1), &buffer[..0], &records[..0]),
         };
     }
     if buffer.len() < n {

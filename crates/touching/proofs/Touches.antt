@@ -12,21 +12,25 @@ use Rattle.machine.specs.Machine.{Sizes, places, placeOf, touch, asked, Answer,
 use Rattle.machine.specs.Laws.Sizes.{both, fit, place-below}
 use Rattle.memory.specs.Memory.{Memory, memory, at, sizesOf, lengths}
 use Rattle.memory.specs.declared.Head.{Head}
-use Rattle.memory.specs.declared.Taken.{Taken}
-use Rattle.memory.specs.declared.Sight.{Sight}
-use Rattle.memory.specs.declared.Sight.the-variants as sight-is
-use Rattle.memory.specs.declared.Plan.{Plan}
-use Rattle.memory.specs.declared.Plan.the-variants as plan-is
+use Rattle.pool.specs.declared.Taken.{Taken}
+use Rattle.lookup.specs.declared.Sight.{Sight}
+use Rattle.lookup.specs.declared.Sight.the-variants as sight-is
+use Rattle.touching.specs.declared.Plan.{Plan}
+use Rattle.touching.specs.declared.Plan.the-variants as plan-is
 use Rattle.promise.specs.Did.{Tables, Did}
-use Rattle.laws.specs.Models.{checkOf, emptyPool, topOk, fitOk, planIf, planFor, takenFrom, planSays, planLeaves, SeenAt, touchLengths}
+use Rattle.laws.specs.Models.{checkOf, touchLengths}
+use Rattle.pool.specs.Models.{emptyPool, takenFrom}
+use Rattle.touching.specs.Models.{topOk, fitOk, planIf, planFor, planSays, planLeaves}
+use Rattle.lookup.specs.Models.{SeenAt}
 use Rattle.laws.specs.Checking as checking
 use Rattle.laws.specs.Passing.{page-passes}
 use Rattle.laws.specs.Checks.{page-check}
 use Rattle.laws.specs.Told.{early-refused}
-use Rattle.laws.specs.Touching.{seen-inside, new-inside, touch-did}
+use Rattle.touching.specs.Touching.{seen-inside, new-inside, touch-did}
 use Rattle.lookup.specs.Ready.{Ready, SeenOf, frameOf}
 use Rattle.lookup.proofs.Sights.{frame-seen, lookable, still-ready, ready-long, not-lent}
-use Rattle.touching.specs.Fits.{Touchable, InReach, TakeableFrom, Top, Mappable, Mapped, Planned}
+use Rattle.pool.specs.Takes.{TakeableFrom, Top}
+use Rattle.touching.specs.Fits.{Touchable, InReach, Mappable, Mapped, Planned}
 
 -- ---- a touch that passed the checks
 

@@ -4,16 +4,15 @@ use checks::all_places;
 use checks::check;
 use checks::place;
 use checks::wide;
+use lookup::Sight;
 use lookup::frame_of;
 use lookup::see;
 use machine::Touched;
 use memory::ANY;
 use memory::Head;
 use memory::Lengths;
-use memory::Plan;
-use memory::Sight;
-use memory::Taken;
 use memory::TouchOut;
+use pool::Taken;
 ghost use mathlib.Core.Path.{_≡_};
 ghost use mathlib.Core.List.{List};
 ghost use Prim.Native.Nat.{ℕ, _+_, _<_, _≤_};
@@ -22,18 +21,15 @@ ghost use Rattle.machine.specs.Machine as machine;
 ghost use Rattle.machine.specs.Answers.{touchedSays};
 ghost use Rattle.memory.specs.Memory.{memory};
 ghost use Rattle.promise.specs.Did.{Did};
-ghost use Rattle.laws.specs.Models.{emptyPool, topOk, nextOk, fitOk, planFor, newestOf, taken};
+ghost use Rattle.touching.specs.Models.{topOk, fitOk, planFor};
 ghost use Rattle.lookup.specs.Ready.{Ready};
-ghost use Rattle.touching.specs.Fits.{Touchable, InReach, Takeable, Top, Mappable, Mapped, Planned};
+ghost use Rattle.touching.specs.Fits.{Touchable, InReach, Mappable, Mapped, Planned};
 
-// Whether no frame is left.
-fn empty_pool(h: Head) -> bool
-    ensures { λ r. ⌜ r ≡ emptyPool h ⌝ }
-{
-    if h.many != 0 {
-        return false;
-    }
-    h.frames <= h.fresh
+// What a touch is to do: nothing for a resident page; map one of the region that starts at a place.
+pub enum Plan {
+    Old(u32),
+    New(usize, u32),
+    Refused(u32, u32),
 }
 
 // Whether the newest entry of a region of n pages is a place.
@@ -45,16 +41,6 @@ fn top_ok(stack: &[u32], t: usize, a: usize, n: usize) -> bool
         return true;
     }
     wide(stack[a + (n - 1)]) < t
-}
-
-// Whether the next frame is a frame.
-fn next_ok(h: Head) -> bool
-    ensures { λ r. ⌜ r ≡ nextOk (h .frames) (h .first) (h .many) ⌝ }
-{
-    if h.many == 0 {
-        return true;
-    }
-    h.first < h.frames
 }
 
 // Whether the words that a new page of the region at a needs are where they may be.
@@ -69,7 +55,7 @@ fn fit(h: Head, count: &[u32], stack: &[u32], t: usize, a: usize) -> bool
     if !top_ok(stack, t, a, n) {
         return false;
     }
-    next_ok(h)
+    pool::next_ok(h)
 }
 
 // What to do about a page so seen.
@@ -80,7 +66,7 @@ fn plan(h: Head, s: Sight, count: &[u32], stack: &[u32], t: usize) -> Plan
     match s {
         Sight::Mapped(f) => Plan::Old(f),
         Sight::Unmapped(a, c) => {
-            if empty_pool(h) {
+            if pool::is_empty(h) {
                 return Plan::Refused(8, c);
             }
             if fit(h, count, stack, t, a) {
@@ -91,58 +77,6 @@ fn plan(h: Head, s: Sight, count: &[u32], stack: &[u32], t: usize) -> Plan
         Sight::Outside(c) => Plan::Refused(4, c),
         Sight::Broken => Plan::Refused(9, 0),
     }
-}
-
-// The pool's first frame: a linked one, or one never used.
-fn take(h: Head, link: &[u32]) -> Taken
-    requires { ⌜ Takeable h (now link) ⌝ }
-    ensures { λ r. ⌜ r ≡ taken (now (link .entry)) h ⌝ }
-{
-    let page = h.page;
-    if h.many == 0 {
-        let fresh = h.fresh + 1;
-        let rest = Head {
-            spaces: h.spaces,
-            pages: h.pages,
-            frames: h.frames,
-            page,
-            first: h.first,
-            many: 0,
-            fresh,
-        };
-        return Taken {
-            frame: h.fresh,
-            head: rest,
-        };
-    }
-    let f = wide(h.first);
-    let first = link[f];
-    let many = h.many - 1;
-    let rest = Head {
-        spaces: h.spaces,
-        pages: h.pages,
-        frames: h.frames,
-        page,
-        first,
-        many,
-        fresh: h.fresh,
-    };
-    Taken {
-        frame: h.first,
-        head: rest,
-    }
-}
-
-// The frame of the newest page of a region of n pages.
-pub fn newest(table: &[u32], stack: &[u32], a: usize, n: usize) -> u32
-    requires { ⌜ Top (now table) (now stack) a n ⌝ }
-    ensures { λ r. ⌜ r ≡ newestOf (now (table .entry)) (now (stack .entry)) a n ⌝ }
-{
-    if n == 0 {
-        return 0;
-    }
-    let q = wide(stack[a + (n - 1)]);
-    table[q]
 }
 
 // Maps page p of the region at a: one word in each table.
@@ -161,10 +95,10 @@ fn map_page(
     ensures { λ r. ⌜ Mapped h (now (count .entry)) (now (table .entry)) (now (helper .entry)) (now (stack .entry)) (now (cache .entry)) (now (link .entry)) a p r
         (now (count .exit)) (now (table .exit)) (now (helper .exit)) (now (stack .exit)) (now (cache .exit)) (now (link .exit)) ⌝ }
 {
-    let new = take(h, link);
+    let new = pool::take(h, link);
     let f = wide(new.frame);
     let n = wide(count[a]);
-    let before = newest(table, stack, a, n);
+    let before = pool::newest(table, stack, a, n);
     link[f] = before;
     table[p] = new.frame;
     helper[p] = n as u32;

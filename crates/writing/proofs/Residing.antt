@@ -10,7 +10,7 @@ use lib.ListN.{length}
 use Rattle.machine.specs.declared.Looked.the-variants as looked-is
 use Rattle.memory.specs.Memory.{Memory, memory}
 use Rattle.memory.specs.declared.Head.{Head}
-use Rattle.memory.specs.declared.Sight.the-variants.{Mapped}
+use Rattle.lookup.specs.declared.Sight.the-variants.{Mapped}
 use Rattle.laws.specs.Spans.{AllTouched, none-touched, one-touched}
 use Rattle.lookup.specs.Ready.{Ready, Lookable, frameOf}
 use Rattle.lookup.proofs.Sights.{frame-seen, look-found}

@@ -19,8 +19,8 @@ use Rattle.promise.specs.Holds.{Holds}
 use Rattle.promise.specs.Did.{Words, Did}
 use Rattle.laws.specs.Refusals.{words-none}
 use Rattle.laws.specs.Found.{Found, address-found, Residence, residence, residence-below, RefusedAs, refused-is}
-use Rattle.laws.specs.Touches.{words-then}
-use Rattle.laws.specs.Storing.{SpanMapped, stored-append, stored-part, words-sets}
+use Rattle.writing.specs.Touches.{words-then}
+use Rattle.writing.specs.Storing.{SpanMapped, stored-append, stored-part, words-sets}
 use Rattle.spans.specs.Parts.{Span, Part}
 use Rattle.spans.proofs.Parts.{part-page, part-in-frame, part-ends, part-long, next-long}
 use Rattle.writing.specs.Stores.{Stored}

@@ -20,7 +20,7 @@ use Rattle.promise.specs.Holds.{Holds}
 use Rattle.promise.specs.Did.{Among, Later, Did}
 use Rattle.laws.specs.Refusals.{passed-step}
 use Rattle.laws.specs.Found.{Found, looked-later, page-found}
-use Rattle.laws.specs.Writing.{writeRefusal}
+use Rattle.writing.specs.Writing.{writeRefusal}
 use Rattle.lookup.specs.Ready.{Ready}
 use Rattle.lookup.proofs.Sights.{look-asked}
 use Rattle.spans.specs.Spans.{absenceOf}

@@ -8,7 +8,7 @@ use Rattle.machine.specs.Machine.{touch, Answer}
 use Rattle.memory.specs.Memory.{Memory, sizesOf}
 use Rattle.promise.specs.Did.{Did, Tables}
 use Rattle.laws.specs.Spans.{AllTouched, none-touched, one-touched}
-use Rattle.laws.specs.Touches.{all-tables}
+use Rattle.writing.specs.Touches.{all-tables}
 
 -- the pages from `first` to before `page`, whatever the RAM, which no touch is lent
 pub record SoFar (i first end page : ℕ) (k k′ : List ℕ → Memory) : Type 0 where

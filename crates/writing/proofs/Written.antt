@@ -15,8 +15,8 @@ use Rattle.promise.specs.Did.{Among, Words, Did}
 use Rattle.laws.specs.Models.{checkOf}
 use Rattle.laws.specs.Spans.{spanInside, writeLengths, AllTouched}
 use Rattle.laws.specs.SpanChecks.{write-check}
-use Rattle.laws.specs.Touches.{all-tables}
-use Rattle.laws.specs.Writing.{Admitted, write-admitted, span-pages-inside, writeRefusal, refusalOf, write-refused, write-done, withBytes}
+use Rattle.writing.specs.Touches.{all-tables}
+use Rattle.writing.specs.Writing.{Admitted, write-admitted, span-pages-inside, writeRefusal, refusalOf, write-refused, write-done, withBytes}
 use Rattle.lookup.specs.Ready.{Lookable}
 use Rattle.lookup.proofs.Sights.{lookable, still-ready}
 use Rattle.touching.specs.Fits.{Touchable}

@@ -8,7 +8,7 @@ use Rattle.memory.specs.Memory.{memory, sizesOf}
 use Rattle.memory.specs.declared.Head.{Head}
 use Rattle.promise.specs.Holds.{Holds}
 use Rattle.promise.specs.Did.{Words}
-use Rattle.laws.specs.Storing.{SpanMapped}
+use Rattle.writing.specs.Storing.{SpanMapped}
 
 pub record Stored (h : Head) (i x : ℕ) (vs index count table helper stack cache ram ram′ : List ℕ) : Type 0 where
   -- on any memory

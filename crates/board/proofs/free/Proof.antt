@@ -5,10 +5,10 @@ use denote.Enum.Laws as EL
 use Rattle.memory.proofs.Head as T
 use Rattle.machine.proofs.Free as R
 use Rattle.machine.proofs.Free.Laws as R′
-use Rattle.marking.proofs.free as g
-use Rattle.marking.proofs.free.Symbol as g-def
-use Rattle.marking.proofs.free.Symbol.{name as #g}
-use Rattle.marking.proofs.free.Met as g-thm
+use Rattle.pool.proofs.free as g
+use Rattle.pool.proofs.free.Symbol as g-def
+use Rattle.pool.proofs.free.Symbol.{name as #g}
+use Rattle.pool.proofs.free.Met as g-thm
 use Rattle.board.proofs.Walks.{Kind, typesOf, spellsOf, tellsOf, typedOf, meets, headVal, enters, reads-head, arg, gives}
 use Rattle.board.proofs.free.Key.{name as #f}
 use Rattle.board.proofs.free as f
@@ -40,4 +40,4 @@ free-spec 𝓤 H 𝓜 𝓖 𝓡 =
     entered 𝓤 H (tripleOf 𝓤 H (𝓖 .A) f.signature (f.spec 𝓤 H (𝓖 .A) (𝓜 .mem) (𝓡 .run)))
     (tables 𝓤 H 𝓜 𝓡 code.env .C) (tables 𝓤 H 𝓜 𝓡 code.env .Λ) #f code.function (code.unfolded 𝓤 H 𝓜 𝓡)
     (f-meets 𝓤 H (𝓖 .A) (givenOf 𝓤 H 𝓜 𝓖) (𝓜 .mem) (𝓡 .run) (tablesOf 𝓤 H 𝓜 (tables 𝓤 H 𝓜 𝓡 code.env))
-    (cited 𝓤 H (Callee 𝓤 H (𝓖 .A) (𝓜 .mem) (𝓡 .run)) 𝓜 𝓡 code.env #g g-def.routine code.calls-marking·free (g-thm.met 𝓤 H 𝓜 𝓖 𝓡)))
+    (cited 𝓤 H (Callee 𝓤 H (𝓖 .A) (𝓜 .mem) (𝓡 .run)) 𝓜 𝓡 code.env #g g-def.routine code.calls-pool·free (g-thm.met 𝓤 H 𝓜 𝓖 𝓡)))

@@ -14,8 +14,8 @@ use Rattle.machine.specs.Claims.{noPair}
 use Rattle.machine.specs.Laws.Kept.{sound-stored}
 use Rattle.memory.specs.Memory.{Memory, at, sizesOf}
 use Rattle.promise.specs.Holds.{Chain, Pooled, unused, Roomy, Placed, Holds}
-use Rattle.laws.specs.Chains.{times}
-use Rattle.laws.specs.Pool.{sum-any, free-below}
+use Rattle.pool.specs.Chains.{times}
+use Rattle.pool.specs.Pool.{sum-any, free-below}
 use Rattle.laws.specs.Room.{owned-below}
 use Rattle.demands.specs.History.{front, rejoined}
 use Rattle.demands.specs.Laws.Cut.{cut, mended}

@@ -6,7 +6,7 @@ use Rattle.machine.specs.Machine.{State, withRam, Answer, answers, answer, afte
 use Rattle.machine.specs.Claims.{blind}
 use Rattle.memory.specs.Memory.{Memory}
 use Rattle.promise.specs.Holds.{Holds}
-use Rattle.laws.specs.Writing.{bytes-hold}
+use Rattle.laws.specs.Bytes.{bytes-hold}
 use Rattle.demands.specs.History.{Event, played, calls}
 use Rattle.demands.specs.Outside.{Turn, called, filled, Course, none, call, fill, made, answersIn, afterIn}
 use Rattle.demands.specs.Laws.Step.{step-follows}

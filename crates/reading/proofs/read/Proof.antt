@@ -7,7 +7,7 @@ use lib.ListN.{length}
 use Rattle.memory.specs.Memory.{Memory, memory}
 use Rattle.laws.specs.Models.{checkOf}
 use Rattle.laws.specs.Spans.{spanInside, readLengths}
-use Rattle.laws.specs.Reading.{read-early, read-stopped, read-copied}
+use Rattle.reading.specs.Reading.{read-early, read-stopped, read-copied}
 use Rattle.lookup.specs.Ready.{Lookable}
 use Rattle.lookup.proofs.Sights.{lookable}
 use Rattle.spans.proofs.Absent.{refused-as}

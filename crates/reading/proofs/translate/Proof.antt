@@ -9,7 +9,7 @@ use Rattle.memory.specs.Memory.{Memory, memory, sizesOf}
 use Rattle.promise.specs.Did.{Did}
 use Rattle.laws.specs.Models.{checkOf, lookLengths}
 use Rattle.laws.specs.Spans.{addressInside}
-use Rattle.laws.specs.Translating.{translate-early, translate-refused, translate-at}
+use Rattle.reading.specs.Translating.{translate-early, translate-refused, translate-at}
 use Rattle.lookup.proofs.Sights.{lookable}
 use Rattle.spans.proofs.Absent.{refused-as}
 use Rattle.reading.proofs.Checked.{page-fits, address-ready, address-page}

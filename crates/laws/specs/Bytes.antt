@@ -1,0 +1,37 @@
+-- Bytes stored in the RAM, and nothing else changed, keep the memory honest.
+use mathlib.Core.Path.{_≡_, refl}
+use mathlib.Core.List.{List}
+use Prim.Native.Nat.{ℕ}
+use lib.ListN.{length}
+use Rattle.machine.specs.Machine.{State, withRam}
+use Rattle.machine.specs.Laws.Kept.{sound-stored}
+use Rattle.memory.specs.Memory.{Memory, memory}
+use Rattle.promise.specs.Holds.{Holds}
+
+abbrev pub withBytes : Memory → List ℕ → Memory
+withBytes k ram = memory (k .head) (k .index) (k .count) (k .table) (k .helper) (k .stack) (k .cache) (k .link) ram
+
+pub bytes-hold : (m : State) (k : Memory) (ram : List ℕ) → Holds m k → length ram ≡ length (k .ram) → Holds (withRam m ram) (withBytes k ram)
+bytes-hold m k ram h e =
+    let r = h .roomy in
+    record {
+      sound = sound-stored m (h .sound) ram;
+      sizes-are = h .sizes-are;
+      roomy =
+          record {
+            index = r .index;
+            count = r .count;
+            table = r .table;
+            helper = r .helper;
+            stack = r .stack;
+            cache = r .cache;
+            link = r .link;
+            ram = rw e (r .ram);
+          };
+      index-is = h .index-is;
+      counts = h .counts;
+      entries = λ a j l. let p = h .entries a j l in record { stack-is = p .stack-is; helper-is = p .helper-is; cache-is = p .cache-is; table-is = p .table-is; room = p .room };
+      links = h .links;
+      pooled = h .pooled;
+      ram-is = refl;
+    }

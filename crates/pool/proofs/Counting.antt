@@ -1,0 +1,38 @@
+-- Free: its answer is the model's in each of its four cases.
+use mathlib.Core.Path.{_≡_, refl}
+use mathlib.Core.Bool.{true, false}
+use mathlib.Core.List.{List}
+use Prim.Native.Nat.{ℕ, _+_, _-_, _≤_, _<_}
+use borrow.Author.Tests.{lt-leb, le-leb}
+use Rattle.machine.specs.Machine.{Answer, refused, frames, free, sizesOk}
+use Rattle.memory.specs.Memory.{memory, sizesOf}
+use Rattle.memory.specs.declared.Head.{Head}
+use Rattle.promise.specs.Did.{Did}
+use Rattle.pool.specs.Models.{freeSays}
+use Rattle.pool.specs.Freeing.{free-did}
+
+module _ (h : Head) where
+  -- whatever tables are there
+  abbrev DidFree : Answer → Type 0
+  DidFree a =
+      (index count table helper stack cache link ram : List ℕ)
+      → let k = memory h index count table helper stack cache link ram in Did (λ _. free) k a k
+
+  pub not-started : sizesOk (sizesOf h) ≡ false → DidFree (refused 1)
+  not-started e index count table helper stack cache link ram = free-did _ _ _ (rw e (record { answer-is = refl; same = refl }))
+
+  module _ (ok : sizesOk (sizesOf h) ≡ true) where
+    says : (a : Answer) → a ≡ freeSays h → DidFree a
+    says a e index count table helper stack cache link ram = free-did _ _ _ (rw ok (e, refl))
+
+    pub too-many : h .frames < h .many → DidFree (refused 9)
+    unfolding freeSays
+    too-many l = says _ (rw (lt-leb (h .many) (h .frames) l))
+
+    pub too-fresh : h .many ≤ h .frames → h .frames < h .fresh → DidFree (refused 9)
+    unfolding freeSays
+    too-fresh m l = says _ (rw (le-leb (h .many) (h .frames) m, lt-leb (h .fresh) (h .frames) l))
+
+    pub counted : h .many ≤ h .frames → h .fresh ≤ h .frames → DidFree (frames (h .many + (h .frames - h .fresh)))
+    unfolding freeSays
+    counted m l = says _ (rw (le-leb (h .many) (h .frames) m, le-leb (h .fresh) (h .frames) l))

@@ -1,0 +1,142 @@
+-- A write keeps the promise: refused before the first touch, or all touched and all stored.
+use mathlib.Core.Path.{_≡_, refl, sym, ap, _∙_, subst}
+use mathlib.Core.Bool.{Bool, true, false, _&&_}
+use mathlib.Core.List.{List, [], _∷_}
+use Prim.Native.Nat.{ℕ, zero, suc, _+_, _*_, _/_, _≤_, _<_}
+use native.Mathlib.Nat.{div-lt-iff-lt-mul}
+use native.Mathlib.Omega.{arith}
+use borrow.Author.Tests.{leb-true, ltb-true, ltb-false}
+use lib.Dec.{leb, ltb}
+use lib.ListN.{length}
+use Rattle.places.specs.Laws.{div-mono}
+use Rattle.machine.specs.Machine.{Sizes, sizesOk, spaceBytes, State, pageOfAddress, spanPages, Lent, uses, enough, write, asked, refused, done, tell, countAbsent, stored, withRam, storeAll, spanTouched, spanOutside, spanShort, writeIf, writeAt, accepted, after}
+use Rattle.machine.specs.Laws.Sizes.{both, Fit, fit, some-bytes, passed, page-below}
+use Rattle.machine.specs.Laws.Bytes.{in-pages}
+use Rattle.machine.specs.Laws.Kept.{sound-stored}
+use Rattle.machine.specs.Laws.Stays.{IsMapped, grown-all-touched, span-mapped}
+use Rattle.memory.specs.Memory.{Memory, memory, sizesOf, lengths}
+use Rattle.promise.specs.Holds.{Holds}
+use Rattle.promise.specs.Did.{Among, Words, Did}
+use Rattle.laws.specs.Bytes.{withBytes, bytes-hold}
+use Rattle.laws.specs.Spans.{AllTouched}
+use Rattle.laws.specs.Refusals.{Long, long, passed-step}
+use Rattle.laws.specs.Told.{from-four, told-did}
+use Rattle.writing.specs.Touches.{all-tables, all-touched-holds}
+use Rattle.writing.specs.Storing.{SpanMapped}
+
+-- ---- the check
+
+-- a write that passed
+pub record Admitted (z : Sizes) (i x : ℕ) (vs : List ℕ) (l : Lent) : Type 0 where
+  pub sizes-ok : sizesOk z ≡ true
+  pub lent : Long (uses (write i x vs l)) z l
+  pub space : i < z .spaces
+  pub fits : x + length vs ≤ spaceBytes z
+
+pub write-admitted : (z : Sizes) (i x : ℕ) (vs : List ℕ) (l : Lent) → asked z (write i x vs l) ≡ 0 → Admitted z i x vs l
+unfolding asked
+write-admitted z i x vs l e =
+    let u = uses (write i x vs l) in
+    let p = passed (sizesOk z && enough u z l) (ltb i (z .spaces)) (leb (x + length vs) (spaceBytes z)) e in
+    let q = both (sizesOk z) _ (p .first) in
+    record { sizes-ok = q .0; lent = long u z l (q .1); space = ltb-true i (z .spaces) (p .second); fits = leb-true _ (spaceBytes z) (p .third) }
+
+-- ---- the pages of a span
+
+module _ (z : Sizes) (f : Fit z) (x : ℕ) where
+  -- a span in a space has its pages in the space
+  pub span-pages-inside : (n : ℕ) → x + n ≤ spaceBytes z → x / z .page + spanPages z x n ≤ z .pages
+  span-pages-inside zero l = let h : x / z .page < suc (z .pages) = div-lt-iff-lt-mul (some-bytes z f) .1 (omega (arith, some-bytes z f)) in omega arith
+  span-pages-inside (suc n) l =
+      let a : x / z .page ≤ (x + n) / z .page = div-mono (some-bytes z f) (omega arith) in
+      let b : (x + n) / z .page < z .pages = page-below z (x + n) f (omega arith) in
+      omega arith
+
+-- ---- before the first touch
+
+-- 4, then 8; 0 for none
+abbrev pub writeRefusal : Bool → Bool → ℕ
+writeRefusal true short = 4
+writeRefusal false true = 8
+writeRefusal false false = 0
+
+-- the number that settles a write on this machine
+abbrev pub refusalOf : State → ℕ → ℕ → ℕ → ℕ
+refusalOf m i x n = writeRefusal (spanOutside m i x n) (spanShort m i x n)
+
+refused-if : (m : State) (i x : ℕ) (vs : List ℕ) (a b : Bool) (n : ℕ) → n ≡ writeRefusal a b → (n ≡ 0 → ⊥) → writeIf m i x vs a b ≡ tell m (refused n)
+refused-if m i x vs true b n e d = rw e
+refused-if m i x vs false true n e d = rw e
+refused-if m i x vs false false n e d = absurd (d e)
+
+none-refused : (a b : Bool) → 0 ≡ writeRefusal a b → (a ≡ false) × (b ≡ false)
+none-refused true b e = absurd (omega arith)
+none-refused false true e = absurd (omega arith)
+none-refused false false e = (refl, refl)
+
+-- ---- the promise
+
+module _ (i x : ℕ) (vs : List ℕ) (k : Memory) (passes : asked (sizesOf (k .head)) (write i x vs (lengths k)) ≡ 0) where
+  asked-of : (m : State) → Holds m k → asked (m .sizes) (write i x vs (lengths k)) ≡ 0
+  asked-of m h = ap (λ z. asked z (write i x vs (lengths k))) (sym (h .sizes-are)) ∙ passes
+
+  pub write-refused : (n : ℕ) → Among (4 ∷ 8 ∷ 9 ∷ []) n → ((m : State) → Holds m k → n ≡ refusalOf m i x (length vs)) → Did (write i x vs) k (refused n) k
+  unfolding accepted
+  write-refused n given is =
+      let low = from-four _ _ _ n (omega arith) (omega arith) (omega arith) given in
+      told-did (write i x vs) k (refused n) passes given (tt, tt)
+      (λ m h. refused-if m i x vs (spanOutside m i x (length vs)) (spanShort m i x (length vs)) n (is m h) (omega arith))
+
+  -- the memory after the touches, and the RAM after the stores
+  module _ (k₁ : Memory) (ram : List ℕ)
+      (touched : AllTouched i (x / sizesOf (k .head) .page) k (spanPages (sizesOf (k .head)) x (length vs)) k₁)
+      (index : k₁ .index ≡ k .index)
+      (words : Words (length vs) (sizesOf (k .head) .frames * sizesOf (k .head) .page) (k .ram) ram)
+      (settled : (m : State) → Holds m k → 0 ≡ refusalOf m i x (length vs))
+      (stores : (m₁ : State) → Holds m₁ k₁ → SpanMapped m₁ i x (length vs) → ram ≡ stored m₁ i x vs (k .ram)) where
+    honest : (m : State) → Holds m k → Holds (storeAll (spanTouched m i x (length vs)) i x vs) (withBytes k₁ ram)
+    honest m h =
+        let z = m .sizes in
+        let n = length vs in
+        let p = pageOfAddress z i x in
+        let q = spanPages z x n in
+        let m₁ = spanTouched m i x n in
+        let a = write-admitted z i x vs (lengths k) (asked-of m h) in
+        let f = fit z (a .sizes-ok) in
+        let t = all-tables touched in
+        let h₁ = all-touched-holds m h (a .space) (span-pages-inside z f x n (a .fits)) (subst (λ y. AllTouched i (x / y .page) k (spanPages y x n) k₁) (h .sizes-are) touched) in
+        let g = grown-all-touched m p q (h .sound) .sizes-same in
+        let s = none-refused (spanOutside m i x (length vs)) (spanShort m i x (length vs)) (settled m h) in
+        let mapped : SpanMapped m₁ i x n =
+        λ j l.
+        let b = in-pages z i x n (x + j) (some-bytes z f) (omega arith) (omega arith) in
+        subst (IsMapped m₁) (b .2 ∙ ap (λ y. pageOfAddress y i (x + j)) (sym g)) (span-mapped m p q (h .sound) (s .0) (ltb-false (length (m .pool)) (countAbsent m p q) (s .1)) (b .0) (b .1)) in
+        let is : stored m₁ i x vs (m₁ .ram) ≡ ram = ap (stored m₁ i x vs) (sym (h₁ .ram-is) ∙ t .ram) ∙ sym (stores m₁ h₁ mapped) in
+        rw is (bytes-hold m₁ k₁ ram h₁ (words .few .size ∙ sym (ap length (t .ram))))
+
+    pub write-done : Did (write i x vs) k done (withBytes k₁ ram)
+    unfolding accepted
+    write-done =
+        let t = all-tables touched in
+        record {
+          asks = rw passes tt;
+          stays = λ e. absurd (let z : _≡_ {A = ℕ} 0 1 = cc in omega arith);
+          bounds =
+              record {
+                sizes = t .sizes;
+                index = index;
+                count = t .count;
+                table = t .table;
+                helper = t .helper;
+                stack = t .stack;
+                cache = t .cache;
+                link = t .link;
+                ram = words;
+              };
+          honest = λ m h _.
+              let s = none-refused (spanOutside m i x (length vs)) (spanShort m i x (length vs)) (settled m h) in
+              let accepts : writeAt m i x vs ≡ writeIf m i x vs false false = rw (s .0, s .1) in
+              let o = passed-step m (write i x vs (lengths k)) (asked-of m h) ∙ accepts in
+              record { answer-is = sym (ap (λ r. r .answer) o); holds = subst (λ r. Holds (r .after) (withBytes k₁ ram)) (sym o) (honest m h) };
+          begins = tt;
+        }
