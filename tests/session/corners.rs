@@ -482,6 +482,10 @@ pub fn ends() -> Vec<Said> {
         format!("free\n{long}").into(),
         "no 1\nbad line\n".to_string(),
     ));
+    // a last line that fills the program's buffer and no more
+    for bytes in [65_536, 131_072] {
+        ends.push(("x".repeat(bytes).into(), "bad line\n".to_string()));
+    }
     let write = format!("write 000000000 000000000 {}", "ab".repeat(256));
     let text = format!("start 1 8 3 256\nmark 0 0\n{write}");
     ends.push((text.into(), "ok\nok\nok\n".to_string()));

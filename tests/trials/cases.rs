@@ -15,6 +15,10 @@ impl Trial<'_> {
             let start = machine.region(sizes.place(space, page));
             start.is_some_and(|start| !machine.list_of(start).is_empty())
         };
+        let is_outside = |space: u64, address: u64| {
+            let place = sizes.place(space, address / sizes.page);
+            address < end && machine.region(place).is_none()
+        };
         let cases = &mut self.tally;
         match &call.ask {
             Ask::Mark(space, page) if kind == 6 => {
@@ -45,19 +49,22 @@ impl Trial<'_> {
                     kind == BYTES && (*address, *count) == (end, 0),
                 );
                 cases.case(
+                    Case::EmptyReadOutside,
+                    kind == BYTES && *count == 0 && is_outside(*space, *address),
+                );
+                cases.case(
+                    Case::EmptyReadBeyondTheEnd,
+                    kind == 3 && (*address, *count) == (end + 1, 0),
+                );
+                cases.case(
                     Case::FiveThousandPagesRead,
                     kind == BYTES && *count >= 5_000 * sizes.page,
                 );
                 cases.case(Case::FarBeyondTheSpace, kind == 3 && *count > 1 << 34);
             }
-            Ask::Write(_, address, bytes) => {
+            Ask::Write(space, address, bytes) => {
                 let (count, is_done) = (bytes.len() as u64, kind == DONE);
                 let new = pool.saturating_sub(machine.pool().len() as u64);
-                let is_outside = || {
-                    machine
-                        .region(sizes.place(call.ask.space().unwrap(), address / sizes.page))
-                        .is_none()
-                };
                 cases.case(Case::WroteOutsideWithoutFrames, kind == 4 && pool == 0);
                 cases.case(
                     Case::WroteWithTheLastFrame,
@@ -70,7 +77,11 @@ impl Trial<'_> {
                 );
                 cases.case(
                     Case::EmptyWriteOutside,
-                    is_done && count == 0 && *address < end && is_outside(),
+                    is_done && count == 0 && is_outside(*space, *address),
+                );
+                cases.case(
+                    Case::EmptyWriteBeyondTheEnd,
+                    kind == 3 && (*address, count) == (end + 1, 0),
                 );
                 cases.case(
                     Case::FiveThousandPagesWritten,
@@ -98,6 +109,11 @@ impl Trial<'_> {
                     kind == REGIONS && answer.value >= 10_000,
                 );
                 cases.case(Case::OneRecordTooFew, kind == 11 && is_few());
+                cases.case(
+                    Case::NoRecordForNoRegion,
+                    kind == REGIONS && answer.value == 0 && *room == 0,
+                );
+                cases.case(Case::ListedNoSpaceWithoutRoom, kind == 2 && *room == 0);
             }
             _ => {}
         }

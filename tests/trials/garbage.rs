@@ -8,6 +8,8 @@ pub enum Garbage {
     Zeros,
     Ones,
     Random,
+    // each word its own place
+    Counted,
     // numbers that could be places, frames or entries of a small region
     Small,
     // regions with all of their pages resident, as an earlier use could have left them
@@ -16,10 +18,11 @@ pub enum Garbage {
     Disturbed,
 }
 
-pub const KINDS: [Garbage; 6] = [
+pub const KINDS: [Garbage; 7] = [
     Garbage::Zeros,
     Garbage::Ones,
     Garbage::Random,
+    Garbage::Counted,
     Garbage::Small,
     Garbage::Agreeing,
     Garbage::Disturbed,
@@ -37,16 +40,17 @@ impl Garbage {
     pub fn words(self, draw: &mut Draw, sizes: &Sizes, starts: &[u64]) -> Words {
         let needed = sizes.needed().map(|n| n as usize);
         let (t, f) = (sizes.places(), sizes.frames);
-        let mut word = |limits: &[u64]| match self {
+        let mut word = |k: usize, limits: &[u64]| match self {
             Garbage::Zeros => 0,
             Garbage::Ones => u32::MAX,
             Garbage::Random => draw.next() as u32,
+            Garbage::Counted => k as u32,
             _ => {
                 let limit = draw.among(limits);
                 draw.below(limit) as u32
             }
         };
-        let mut table = |many: usize, limits: &[u64]| (0..many).map(|_| word(limits)).collect();
+        let mut table = |many: usize, limits: &[u64]| (0..many).map(|k| word(k, limits)).collect();
         let mut tables: [Vec<u32>; 6] = [
             table(needed[1], &[4, 4, f + 1, t + 1]),
             table(needed[2], &[f, f, f + 1]),

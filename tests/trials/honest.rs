@@ -49,13 +49,24 @@ fn told(answer: &plain::Answer, count: u64) -> Answer {
     Answer { kind, words, value }
 }
 
+// The seven numbers of a head before any start: no spaces, whatever else it holds.
+fn head_before(draw: &mut Draw, sizes: &Sizes) -> [u32; 7] {
+    if draw.once_in(2) {
+        return [0; 7];
+    }
+    let [pages, frames, shift] = [sizes.pages, sizes.frames, sizes.page.ilog2().into()];
+    let [first, many, fresh] = [32; 3].map(|bits| draw.any_size(bits));
+    [0, pages, frames, shift, first, many, fresh].map(|number| number as u32)
+}
+
 impl Trial<'_> {
     pub fn new(plan: Plan, tally: &mut Tally) -> Trial<'_> {
         let mut draw = Draw::new(plan.seed);
         let mut memory = Memory::new(&mut draw, &plan.sizes, plan.longest, plan.unreachable);
         let favourites = favourites(&mut draw, &plan.sizes);
         let words = plan.garbage.words(&mut draw, &plan.sizes, &favourites);
-        let ram = memory.fill(&mut draw, &words);
+        let head = head_before(&mut draw, &plan.sizes);
+        let ram = memory.fill(&mut draw, &words, head);
         let traffic = Traffic {
             draw,
             first: plan.sizes,

@@ -62,6 +62,10 @@ fn gate() {
     let sets = sizes::compare().unwrap_or_else(|e| fail(e));
     println!("trials: {sets} sets of sizes agree");
     let mut tally = Tally::default();
+    for plan in runs::sessions() {
+        let played = Trial::new(plan, &mut tally).play_script(runs::session());
+        played.unwrap_or_else(|e| fail(e));
+    }
     for run in runs::table() {
         honest(&run, &mut tally);
     }

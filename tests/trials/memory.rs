@@ -124,7 +124,7 @@ impl Memory {
     }
 
     // Garbage in what the sizes need, patterns in the rest; from then on every page is watched.
-    pub fn fill(&mut self, draw: &mut Draw, words: &Words) -> Vec<u8> {
+    pub fn fill(&mut self, draw: &mut Draw, words: &Words, head: [u32; 7]) -> Vec<u8> {
         for part in (0..PARTS).filter(|part| *part != RAM) {
             let slot = self.slot(part);
             let mut content: Vec<u8> = match part {
@@ -133,7 +133,7 @@ impl Memory {
                     .iter()
                     .flat_map(|w| w.to_le_bytes())
                     .collect(),
-                HEAD => vec![0; 28],
+                HEAD => head.into_iter().flat_map(u32::to_le_bytes).collect(),
                 _ => Vec::new(),
             };
             content.extend((content.len()..slot.bytes).map(pattern));
@@ -158,6 +158,7 @@ impl Memory {
         let ram = match draw.below(4) {
             0 => vec![0; slot.bytes],
             1 => (0..slot.bytes).map(pattern).collect(),
+            2 => vec![0xFF; slot.bytes],
             _ => draw.bytes(slot.bytes as u64),
         };
         self.arena.fill(from * PAGE, &[SPARE; PAGE]);

@@ -2,8 +2,15 @@
 use crate::draw::Draw;
 use crate::garbage::KINDS;
 use crate::honest::Plan;
-use crate::plain::Sizes;
+use crate::plain::{Ask, Sizes};
 use crate::story::Course;
+
+const SESSION: Sizes = Sizes {
+    spaces: 1,
+    pages: 8,
+    frames: 3,
+    page: 256,
+};
 
 // S, N, F, P, then marks, marks in a row, calls of each mix, later starts, and whether the pool is
 // drained at the end.
@@ -43,6 +50,41 @@ const TABLE: [Row; 29] = [
     (2, 40, 65_536, 256, 10, 0, 200, 0, true),
     (4, 1_024, 6, 1_024, 50, 0, 300, 1, true),
 ];
+
+// Document 01's session.
+pub fn session() -> Vec<Ask> {
+    vec![
+        Ask::Start(SESSION),
+        Ask::Mark(0, 0),
+        Ask::Mark(0, 4),
+        Ask::Touch(0, 5),
+        Ask::Touch(0, 1),
+        Ask::Touch(0, 6),
+        Ask::Touch(0, 5),
+        Ask::Touch(0, 7),
+        Ask::Mark(0, 6),
+        Ask::Release(0, 4),
+        Ask::Look(0, 5),
+        Ask::Touch(0, 2),
+        Ask::Look(0, 9),
+        Ask::Drop(0, 4),
+        Ask::Touch(0, 7),
+        Ask::Release(0, 0),
+        Ask::Mark(0, 0),
+    ]
+}
+
+// One for each kind of garbage.
+pub fn sessions() -> Vec<Plan> {
+    let plan = |garbage| Plan {
+        seed: 0,
+        sizes: SESSION,
+        garbage,
+        unreachable: false,
+        longest: 256,
+    };
+    KINDS.map(plan).to_vec()
+}
 
 pub fn table() -> Vec<(Plan, Course)> {
     let rows = TABLE.into_iter().enumerate();

@@ -2,7 +2,7 @@
 // releases, starts with other sizes on what was left, and at the end all frames in the pool's order.
 use crate::honest::Trial;
 use crate::memory::RAM;
-use crate::plain::{Ask, Sizes};
+use crate::plain::{Ask, Call, Sizes};
 use crate::traffic::{favourites, HUNGRY, MIXED, PAGES, SPANS};
 
 // How much of each a trial has.
@@ -45,6 +45,15 @@ impl Trial<'_> {
             self.stretch(course)?;
         }
         self.end(course.drains)?;
+        self.compare_all()
+    }
+
+    // Calls that are lent all of the memory.
+    pub fn play_script(&mut self, asks: Vec<Ask>) -> Result<(), String> {
+        for ask in asks {
+            let lent = self.memory.real;
+            self.call(Call { ask, lent })?;
+        }
         self.compare_all()
     }
 

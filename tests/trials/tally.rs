@@ -81,6 +81,8 @@ pub fn line(ask: &Ask) -> String {
 pub enum Seen {
     // a call's answer of a kind
     Answer(&'static str, u32),
+    // a call before any start
+    Unstarted(&'static str),
     // a call refused for one entry of one buffer, by the buffer's number
     Short(&'static str, usize),
     // a call with two reasons to be refused: "the first that applies is answered"
@@ -109,14 +111,19 @@ pub enum Case {
     DroppedNoStartWithResidentPages,
     TouchedOutsideWithoutFrames,
     WroteOutsideWithoutFrames,
+    ListedNoSpaceWithoutRoom,
     // edges of what is accepted
     WroteWithTheLastFrame,
     TooFewFramesForAWrite,
     ReadUpToAnAbsentPage,
     EmptyReadAtTheEnd,
     EmptyWriteAtTheEnd,
+    EmptyReadOutside,
     EmptyWriteOutside,
+    EmptyReadBeyondTheEnd,
+    EmptyWriteBeyondTheEnd,
     EmptyRegionReleased,
+    NoRecordForNoRegion,
     JustEnoughRecords,
     MoreRecordsThanRegions,
     OneRecordTooFew,
@@ -125,7 +132,7 @@ pub enum Case {
 
 use Case::*;
 
-const CASES: [Case; 21] = [
+const CASES: [Case; 26] = [
     AllFramesReleasedAtOnce,
     TenThousandRecords,
     FiveThousandPagesRead,
@@ -136,13 +143,18 @@ const CASES: [Case; 21] = [
     DroppedNoStartWithResidentPages,
     TouchedOutsideWithoutFrames,
     WroteOutsideWithoutFrames,
+    ListedNoSpaceWithoutRoom,
     WroteWithTheLastFrame,
     TooFewFramesForAWrite,
     ReadUpToAnAbsentPage,
     EmptyReadAtTheEnd,
     EmptyWriteAtTheEnd,
+    EmptyReadOutside,
     EmptyWriteOutside,
+    EmptyReadBeyondTheEnd,
+    EmptyWriteBeyondTheEnd,
     EmptyRegionReleased,
+    NoRecordForNoRegion,
     JustEnoughRecords,
     MoreRecordsThanRegions,
     OneRecordTooFew,
@@ -167,6 +179,9 @@ impl Tally {
         let name = CALLS[which(&call.ask)];
         self.calls += 1;
         self.seen.insert(Seen::Answer(name, answer.kind));
+        if now.spaces == 0 {
+            self.seen.insert(Seen::Unstarted(name));
+        }
         let sizes = if let Ask::Start(sizes) = &call.ask {
             sizes
         } else {
@@ -221,6 +236,7 @@ fn wanted() -> Vec<Seen> {
         let name = CALLS[which(&ask)];
         let answers = ANSWERS[which(&ask)];
         wanted.extend(answers.iter().map(|kind| Seen::Answer(name, *kind)));
+        wanted.push(Seen::Unstarted(name));
         let lent = (0..8).filter(|b| ask.is_lent()[*b] == 1);
         wanted.extend(lent.map(|b| Seen::Short(name, b)));
         let mut both = |first, second| {

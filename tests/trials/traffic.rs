@@ -309,9 +309,13 @@ impl Traffic {
             }
             // T over its limit, or a product of 2^32 and little more
             4 => {
-                (sizes.spaces, sizes.pages) =
-                    self.draw
-                        .among(&[(64, 4_097), (3, 87_382), (2, 131_073), (16, 1 << 28)])
+                (sizes.spaces, sizes.pages) = self.draw.among(&[
+                    (64, 4_097),
+                    (3, 87_382),
+                    (2, 131_073),
+                    (16, 1 << 28),
+                    (NO_PAGE, NO_PAGE),
+                ])
             }
             5 => {
                 sizes = Sizes {

@@ -1,5 +1,5 @@
 // Lines from standard input.
-ghost use Prim.Native.Nat.{_≤_};
+ghost use Prim.Native.Nat.{_<_, _≤_};
 ghost use lib.ListN.{length};
 
 // Reads after the first `kept` bytes; answers how many there are then.
@@ -29,7 +29,7 @@ fn least(a: usize, b: usize) -> usize
 }
 
 // Where the line that begins at `from` ends: at its line feed, or at n.
-pub(crate) fn line_end(input: &[u8], from: usize, n: usize) -> usize
+fn line_end(input: &[u8], from: usize, n: usize) -> usize
     ensures { λ r. ⌜ (from ≤ n → from ≤ r) ⌝ }
 {
     let stop = least(n, input.len());
@@ -43,8 +43,53 @@ pub(crate) fn line_end(input: &[u8], from: usize, n: usize) -> usize
     n
 }
 
+// A line from its first byte to before its end, where the next one begins, and whether it is whole.
+pub struct Line {
+    pub first: usize,
+    pub end: usize,
+    pub next: usize,
+    pub is_whole: bool,
+}
+
+fn first_of(is_long: bool, from: usize, end: usize) -> usize
+    requires { ⌜ from ≤ end ⌝ }
+    ensures { λ r. ⌜ r ≤ end ⌝ }
+{
+    if is_long { end } else { from }
+}
+
+// The line that begins at `from`. One of which more came than is kept is a bad line, as an empty one is.
+pub(crate) fn line_at(input: &[u8], from: usize, n: usize, is_last: bool, is_long: bool) -> Line
+    ensures { λ r. ⌜ (r .first ≤ r .end) × (r .end ≤ length (now (input .entry))) × (from < n → from < r .next) ⌝ }
+{
+    let end = line_end(input, from, n);
+    if input.len() < end || end < from {
+        return Line {
+            first: 0,
+            end: 0,
+            next: n,
+            is_whole: false,
+        };
+    }
+    let first = first_of(is_long, from, end);
+    if end < n {
+        return Line {
+            first,
+            end,
+            next: end + 1,
+            is_whole: true,
+        };
+    }
+    Line {
+        first,
+        end,
+        next: n,
+        is_whole: is_last,
+    }
+}
+
 // Moves the bytes from `from` to before n to the front; answers how many they are.
-pub(crate) fn keep(input: &mut [u8], from: usize, n: usize) -> usize {
+fn keep(input: &mut [u8], from: usize, n: usize) -> usize {
     if n <= from {
         return 0;
     }
@@ -58,4 +103,22 @@ pub(crate) fn keep(input: &mut [u8], from: usize, n: usize) -> usize {
         i += 1;
     }
     n - from
+}
+
+// What is kept of a line that isn't whole, and whether more of it came than is kept.
+pub struct Rest {
+    pub kept: usize,
+    pub is_long: bool,
+}
+
+// Keeps what is left of the first n bytes; a line that fills the buffer is longer than any call.
+pub(crate) fn keep_rest(input: &mut [u8], from: usize, n: usize, is_long: bool) -> Rest {
+    let kept = keep(input, from, n);
+    if input.len() <= kept {
+        return Rest {
+            kept: 0,
+            is_long: true,
+        };
+    }
+    Rest { kept, is_long }
 }

@@ -3,11 +3,29 @@
 mod answering;
 mod input;
 
-use answering::answer_last;
 use answering::answer_lines;
+use input::keep_rest;
+use input::read_more;
 use memory::Head;
 use memory::no_start;
 ghost use Prim.Native.Nat.{_<_};
+
+// The bytes of a read and of the answers to it, and the memory that the largest start needs.
+const INPUT: usize = 65_536;
+
+const OUT: usize = 131_072;
+
+const BYTES: usize = 256;
+
+const RECORDS: usize = 3_072;
+
+const INDEX: usize = 17;
+
+const PLACES: usize = 1_024;
+
+const FRAMES: usize = 128;
+
+const RAM: usize = 32_768;
 
 // Garbage: numbers that could be places or frames.
 fn litter(table: &mut [u32], step: u32) {
@@ -18,114 +36,53 @@ fn litter(table: &mut [u32], step: u32) {
     }
 }
 
-// Between two reads: the head, the bytes kept of a line that isn't whole, whether more of it came than is kept,
-// and whether the input goes on.
-pub struct Turn {
-    pub head: Head,
-    pub kept: usize,
-    pub is_long: bool,
-    pub is_more: bool,
+// How many bytes are to be answered: all n; a last line that was too long to be kept is one byte, whatever it is.
+fn lines_end(n: usize, is_last: bool, is_long: bool) -> usize {
+    if is_last && is_long && n == 0 {
+        return 1;
+    }
+    n
 }
 
-// What is kept of a line, unless answers were lost: then nothing more is answered.
-fn kept_if(is_written: bool, left: usize) -> usize {
-    if is_written { left } else { 0 }
-}
-
-// Reads, answers the lines that are whole, and keeps what is left. Lost answers end the session.
-fn take_turn(
-    head: Head,
-    kept: usize,
-    is_long: bool,
-    input: &mut [u8],
-    out: &mut [u8],
-    buffer: &mut [u8],
-    records: &mut [u32],
-    index: &mut [u64],
-    count: &mut [u32],
-    table: &mut [u32],
-    helper: &mut [u32],
-    stack: &mut [u32],
-    cache: &mut [u32],
-    link: &mut [u32],
-    ram: &mut [u8],
-) -> Turn {
-    let n = input::read_more(input, kept);
-    if n == kept {
-        return Turn {
-            head,
-            kept,
-            is_long,
-            is_more: false,
-        };
-    }
-    let done = answer_lines(
-        head,
-        input,
-        n,
-        is_long,
-        out,
-        buffer,
-        records,
-        index,
-        count,
-        table,
-        helper,
-        stack,
-        cache,
-        link,
-        ram,
-    );
-    let next = done.head;
-    let left = kept_if(done.is_written, input::keep(input, done.from, n));
-    if input.len() <= left {
-        return Turn {
-            head: next,
-            kept: 0,
-            is_long: true,
-            is_more: true,
-        };
-    }
-    Turn {
-        head: next,
-        kept: left,
-        is_long: done.is_long,
-        is_more: done.is_written,
-    }
-}
-
-fn turns_left(turns: u64, is_more: bool) -> u64
+fn turns_left(turns: u64, is_written: bool, is_last: bool) -> u64
     requires { ⌜ 0 < turns ⌝ }
     ensures { λ r. ⌜ r < turns ⌝ }
 {
-    if is_more { turns - 1 } else { 0 }
+    if is_last || !is_written {
+        return 0;
+    }
+    turns - 1
 }
 
-// Turn after turn until the input ends; a proved loop has to end, and no input uses up so many turns.
+// Reads, answers the lines that are whole and keeps what is left, until the input ends or answers are lost; a proved loop has to end,
+// and no input uses up so many turns.
 fn run(
-    input: &mut [u8],
-    out: &mut [u8],
-    buffer: &mut [u8],
-    records: &mut [u32],
-    index: &mut [u64],
-    count: &mut [u32],
-    table: &mut [u32],
-    helper: &mut [u32],
-    stack: &mut [u32],
-    cache: &mut [u32],
-    link: &mut [u32],
-    ram: &mut [u8],
+    input: &mut [u8; INPUT],
+    out: &mut [u8; OUT],
+    buffer: &mut [u8; BYTES],
+    records: &mut [u32; RECORDS],
+    index: &mut [u64; INDEX],
+    count: &mut [u32; PLACES],
+    table: &mut [u32; PLACES],
+    helper: &mut [u32; PLACES],
+    stack: &mut [u32; PLACES],
+    cache: &mut [u32; PLACES],
+    link: &mut [u32; FRAMES],
+    ram: &mut [u8; RAM],
 ) {
     let mut head = no_start();
     let mut kept = 0;
     let mut is_long = false;
     let mut turns = u64::MAX;
     while 0 < turns {
-        let turn = take_turn(
+        let n = read_more(input, kept);
+        let is_last = n == kept;
+        let done = answer_lines(
             head,
-            kept,
-            is_long,
             input,
+            lines_end(n, is_last, is_long),
+            is_last,
+            is_long,
             out,
             buffer,
             records,
@@ -138,44 +95,28 @@ fn run(
             link,
             ram,
         );
-        let next = turn.head;
+        let next = done.head;
         head = next;
-        kept = turn.kept;
-        is_long = turn.is_long;
-        turns = turns_left(turns, turn.is_more);
+        let rest = keep_rest(input, done.from, n, done.is_long);
+        kept = rest.kept;
+        is_long = rest.is_long;
+        turns = turns_left(turns, done.is_written, is_last);
     }
-    answer_last(
-        head,
-        input,
-        kept,
-        is_long,
-        out,
-        buffer,
-        records,
-        index,
-        count,
-        table,
-        helper,
-        stack,
-        cache,
-        link,
-        ram,
-    );
 }
 
 fn main() {
-    let mut input = [0u8; 65_536];
-    let mut out = [0u8; 131_072];
-    let mut buffer = [0u8; 256];
-    let mut records = [0u32; 3_072];
-    let mut index = [0u64; 17];
-    let mut count = [0u32; 1_024];
-    let mut table = [0u32; 1_024];
-    let mut helper = [0u32; 1_024];
-    let mut stack = [0u32; 1_024];
-    let mut cache = [0u32; 1_024];
-    let mut link = [0u32; 128];
-    let mut ram = [0u8; 32_768];
+    let mut input = [0u8; INPUT];
+    let mut out = [0u8; OUT];
+    let mut buffer = [0u8; BYTES];
+    let mut records = [0u32; RECORDS];
+    let mut index = [0u64; INDEX];
+    let mut count = [0u32; PLACES];
+    let mut table = [0u32; PLACES];
+    let mut helper = [0u32; PLACES];
+    let mut stack = [0u32; PLACES];
+    let mut cache = [0u32; PLACES];
+    let mut link = [0u32; FRAMES];
+    let mut ram = [0u8; RAM];
     litter(&mut table, 5);
     litter(&mut helper, 7);
     litter(&mut stack, 11);
