@@ -1,4 +1,1 @@
-pub mod Reading
 pub mod Names
-pub mod Digits
-pub mod Unhexing

@@ -8,15 +8,14 @@ use borrow.Author.Tests.{eqb-true}
 use lib.Dec.{eqb}
 use lib.ListN.{length, drop}
 use Rattle.machine.specs.Laws.Sizes.{both}
-use Rattle.serving.specs.declared.Request.the-variants.{Mark, Drop, Touch, Look, Release, Translate}
+use Rattle.machine.specs.declared.PageCall.{PageCall}
+use Rattle.fields.specs.Fields.{begins}
+use Rattle.fields.specs.Laws.{begins-long}
+use Rattle.requests.specs.declared.Request.the-variants.{Page, Translate}
+use Rattle.parsing.specs.declared.Named.the-variants as name-is
 use Rattle.parsing.specs.declared.Line.{Line}
-use Rattle.parsing.specs.Grammar.{startLine, pairLine, freeLine, readLine, writeLine, listLine, begins, startWord, markWord, dropWord, touchWord, lookWord, releaseWord, freeWord, translateWord, readWord, writeWord, listWord, parsed}
-
-begins-long : (ws cs : List ℕ) → begins ws cs ≡ true → length ws ≤ length cs
-unfolding begins
-begins-long [] cs h = omega arith
-begins-long (w ∷ ws) [] h = absurd (let z : _≡_ {A = ℕ} 0 1 = cc in omega arith)
-begins-long (w ∷ ws) (c ∷ cs) h = omega (arith, begins-long ws cs (both (eqb c w) (begins ws cs) h .1))
+use Rattle.parsing.specs.Grammar.{startLine, pairLine, freeLine, readLine, writeLine, listLine}
+use Rattle.parsing.specs.Grammar.{startWord, freeWord, translateWord, readWord, writeWord, listWord, pageNamed, parsed}
 
 front : (ws cs : List ℕ) → begins ws cs ≡ true → cs ≡ ws ++ drop (length ws) cs
 unfolding begins
@@ -37,37 +36,22 @@ module _ {named : Bool} (word line : List ℕ) (e : named ≡ begins word line) 
   pub not-named : named ≡ false → begins word line ≡ false
   not-named h = sym e ∙ h
 
+pub page-is : (line : List ℕ) {p : PageCall} {n : ℕ} → begins startWord line ≡ false → pageNamed line ≡ name-is.Page p n
+    → parsed line ≡ pairLine (λ i b. Page p i b) (drop n line)
+unfolding parsed
+page-is line s e = rw (s, e)
+
 -- no name begins another
 module _ (rest : List ℕ) where
   pub start-is : parsed (startWord ++ rest) ≡ startLine rest
   unfolding begins parsed
   start-is = refl
 
-  pub mark-is : parsed (markWord ++ rest) ≡ pairLine (λ i b. Mark i b) rest
-  unfolding begins parsed
-  mark-is = refl
-
-  pub drop-is : parsed (dropWord ++ rest) ≡ pairLine (λ i b. Drop i b) rest
-  unfolding begins parsed
-  drop-is = refl
-
-  pub touch-is : parsed (touchWord ++ rest) ≡ pairLine (λ i b. Touch i b) rest
-  unfolding begins parsed
-  touch-is = refl
-
-  pub look-is : parsed (lookWord ++ rest) ≡ pairLine (λ i b. Look i b) rest
-  unfolding begins parsed
-  look-is = refl
-
-  pub release-is : parsed (releaseWord ++ rest) ≡ pairLine (λ i b. Release i b) rest
-  unfolding begins parsed
-  release-is = refl
-
   pub free-is : parsed (freeWord ++ rest) ≡ freeLine rest
   unfolding begins parsed
   free-is = refl
 
-  pub translate-is : parsed (translateWord ++ rest) ≡ pairLine (λ i b. Translate i b) rest
+  pub translate-is : parsed (translateWord ++ rest) ≡ pairLine (λ i x. Translate i x) rest
   unfolding begins parsed
   translate-is = refl
 

@@ -1,39 +1,20 @@
 -- The grammar of a line: which call it is, or none. Definitions only; document 01's words stand beside them in quotation marks.
-use mathlib.Core.Bool.{Bool, true, false, cond, _&&_, _||_}
+use mathlib.Core.Bool.{cond}
 use mathlib.Core.List.{List, [], _∷_}
-use Prim.Native.Nat.{ℕ, zero, suc, _+_, _-_, _*_, _/_, _%_}
-use lib.Dec.{eqb, leb}
+use Prim.Native.Nat.{ℕ}
+use lib.Dec.{leb}
 use lib.ListN.{length, drop}
-use Rattle.serving.specs.declared.Request.{Request}
-use Rattle.serving.specs.declared.Request.the-variants.{Start, Mark, Drop, Touch, Look, Release, Free, Translate, Read, Write, List as Listing}
+use Rattle.machine.specs.declared.PageCall.{PageCall}
+use Rattle.machine.specs.declared.PageCall.the-variants.{Mark, Drop, Touch, Look, Release}
+use Rattle.fields.specs.declared.Bytes.{Bytes}
+use Rattle.fields.specs.declared.Bytes.the-variants.{Count, Wrong}
+use Rattle.fields.specs.Fields.{begins, Taken, nothing, number, fieldAt, hexCount}
+use Rattle.requests.specs.declared.Request.{Request}
+use Rattle.requests.specs.declared.Request.the-variants.{Start, Page, Free, Translate, Read, Write, List as Listing}
+use Rattle.parsing.specs.declared.Named.{Named}
+use Rattle.parsing.specs.declared.Named.the-variants as name-is
 use Rattle.parsing.specs.declared.Line.{Line}
 use Rattle.parsing.specs.declared.Line.the-variants.{Call, Bad}
-
--- ---- a number: "decimal", at most 9 digits, leading zeros among them
-
-abbrev pub isDigit : ℕ → Bool
-isDigit c = leb 48 c && leb c 57
-
--- a number taken from the front of a line, and what follows it
-pub data Taken : Type 0 where
-  nothing : Taken
-  number : (value : ℕ) (rest : List ℕ) → Taken
-
--- up to k more digits after a number; one digit more is too many
-unfoldable pub digitsAfter : ℕ → ℕ → List ℕ → Taken
-digitsAfter k v [] = number v []
-digitsAfter zero v (c ∷ cs) = cond (isDigit c) nothing (number v (c ∷ cs))
-digitsAfter (suc k) v (c ∷ cs) = let more = digitsAfter k (10 * v + (c - 48)) cs in cond (isDigit c) more (number v (c ∷ cs))
-
--- "a number of more than 9 digits" is none
-abbrev pub numberAt : List ℕ → Taken
-numberAt [] = nothing
-numberAt (c ∷ cs) = cond (isDigit c) (digitsAfter 8 (c - 48) cs) nothing
-
--- "Words stand one space apart": one blank, then a number
-abbrev pub fieldAt : List ℕ → Taken
-fieldAt [] = nothing
-fieldAt (c ∷ cs) = cond (eqb c 32) (numberAt cs) nothing
 
 -- ---- what is read in order
 
@@ -50,38 +31,20 @@ abbrev pub ended : List ℕ → Line → Line
 ended [] l = l
 ended (c ∷ cs) l = Bad
 
--- ---- bytes: "two lowercase hex digits each, run together"
+abbrev pub andCount : Bytes → (ℕ → Line) → Line
+andCount (Count n) k = k n
+andCount Wrong k = Bad
 
-abbrev pub isHex : ℕ → Bool
-isHex c = isDigit c || (leb 97 c && leb c 102)
-
-unfoldable pub allHex : List ℕ → Bool
-allHex [] = true
-allHex (c ∷ cs) = isHex c && allHex cs
-
--- "hex of at most 256 bytes"
-abbrev pub isBytes : List ℕ → Bool
-isBytes cs = leb 2 (length cs) && leb (length cs) 512 && eqb (length cs % 2) 0 && allHex cs
-
--- "none for an empty span", else a blank and the hex
+-- bytes in hex up to the line's end, or none
 abbrev pub bytesOf : List ℕ → (ℕ → Line) → Line
-bytesOf [] k = k 0
-bytesOf (c ∷ cs) k = cond (eqb c 32 && isBytes cs) (k (length cs / 2)) Bad
-
-abbrev pub nibble : ℕ → ℕ
-nibble c = cond (leb c 57) (c - 48) (c - 87)
-
-unfoldable pub bytesIn : List ℕ → List ℕ
-bytesIn [] = []
-bytesIn (a ∷ []) = []
-bytesIn (a ∷ b ∷ cs) = (16 * nibble a + nibble b) ∷ bytesIn cs
+bytesOf cs k = andCount (hexCount cs) k
 
 -- ---- each call, after its name; the line's count is of the bytes that a read asks for or a write has
 
 abbrev pub startLine : List ℕ → Line
 startLine cs = field cs (λ s cs. field cs (λ n cs. field cs (λ f cs. field cs (λ p cs. ended cs (Call (Start s n f p) 0)))))
 
--- a space and a page or an address: mark, drop, touch, look, release and translate
+-- a space and a page or an address: the page calls and translate
 abbrev pub pairLine : (ℕ → ℕ → Request) → List ℕ → Line
 pairLine make cs = field cs (λ i cs. field cs (λ b cs. ended cs (Call (make i b) 0)))
 
@@ -98,12 +61,7 @@ writeLine cs = field cs (λ i cs. field cs (λ x cs. bytesOf cs (λ n. Call (Wri
 abbrev pub listLine : List ℕ → Line
 listLine cs = field cs (λ i cs. ended cs (Call (Listing i) 0))
 
--- ---- a line
-
-unfoldable pub begins : List ℕ → List ℕ → Bool
-begins [] cs = true
-begins (w ∷ ws) [] = false
-begins (w ∷ ws) (c ∷ cs) = eqb c w && begins ws cs
+-- ---- the calls' names
 
 -- start
 abbrev pub startWord : List ℕ
@@ -149,17 +107,43 @@ writeWord = 119 ∷ 114 ∷ 105 ∷ 116 ∷ 101 ∷ []
 abbrev pub listWord : List ℕ
 listWord = 108 ∷ 105 ∷ 115 ∷ 116 ∷ []
 
--- no name begins another; what begins with none is a bad line
+-- the calls with a space and a page, by name
+abbrev pub pageNames : List (List ℕ × PageCall)
+pageNames =
+    (markWord, Mark) ∷
+    (dropWord, Drop) ∷
+    (touchWord, Touch) ∷
+    (lookWord, Look) ∷
+    (releaseWord, Release) ∷
+    []
+
+-- what a line was found to name, else this call if it begins with its name
+abbrev pub orNamed : Named → List ℕ → List ℕ → PageCall → Named
+orNamed (name-is.Page p n) cs word call = name-is.Page p n
+orNamed name-is.Other cs word call = cond (begins word cs) (name-is.Page call (length word)) name-is.Other
+
+-- and so on through these
+abbrev pub firstNamed : Named → List (List ℕ × PageCall) → List ℕ → Named
+firstNamed found [] cs = found
+firstNamed found (n ∷ ns) cs = firstNamed (orNamed found cs (n .0) (n .1)) ns cs
+
+abbrev pub pageNamed : List ℕ → Named
+pageNamed cs = firstNamed name-is.Other pageNames cs
+
+-- ---- a line
+
+-- a page call after its name, or what the line is if it names none
+abbrev pub orPage : Named → List ℕ → Line → Line
+orPage (name-is.Page p n) cs other = pairLine (λ i b. Page p i b) (drop n cs)
+orPage name-is.Other cs other = other
+
+-- no name begins another (`names-apart`); what begins with none is a bad line
 unfoldable pub parsed : List ℕ → Line
 parsed cs =
     cond (begins startWord cs) (startLine (drop 5 cs))
-    (cond (begins markWord cs) (pairLine (λ i b. Mark i b) (drop 4 cs))
-    (cond (begins dropWord cs) (pairLine (λ i b. Drop i b) (drop 4 cs))
-    (cond (begins touchWord cs) (pairLine (λ i b. Touch i b) (drop 5 cs))
-    (cond (begins lookWord cs) (pairLine (λ i b. Look i b) (drop 4 cs))
-    (cond (begins releaseWord cs) (pairLine (λ i b. Release i b) (drop 7 cs))
+    (orPage (pageNamed cs) cs
     (cond (begins freeWord cs) (freeLine (drop 4 cs))
-    (cond (begins translateWord cs) (pairLine (λ i b. Translate i b) (drop 9 cs))
+    (cond (begins translateWord cs) (pairLine (λ i x. Translate i x) (drop 9 cs))
     (cond (begins readWord cs) (readLine (drop 4 cs))
     (cond (begins writeWord cs) (writeLine (drop 5 cs))
-    (cond (begins listWord cs) (listLine (drop 4 cs)) Bad))))))))))
+    (cond (begins listWord cs) (listLine (drop 4 cs)) Bad))))))

@@ -1,18 +1,18 @@
 // Each call after its name, and the line as a whole.
-use crate::Bytes;
-use crate::Field;
 use crate::Line;
-use crate::PageCall;
-use crate::fields::begins_with;
-use crate::fields::hex_count;
-use crate::fields::number_after_blank;
-use serving::Request;
+use crate::Named;
+use fields::Bytes;
+use fields::Field;
+use fields::begins_with;
+use fields::hex_count;
+use fields::number_after_blank;
+use machine::PageCall;
+use requests::Request;
 ghost use mathlib.Core.Path.{_≡_};
 ghost use Prim.Native.Nat.{_≤_};
 ghost use lib.ListN.{length, drop};
-ghost use Rattle.parsing.specs.Grammar.{startLine, pairLine, freeLine, readLine, writeLine, listLine, parsed};
-ghost use Rattle.parsing.specs.Fields.{pageRequest};
-ghost use Rattle.serving.specs.declared.Request.the-variants as request-is;
+ghost use Rattle.parsing.specs.Grammar.{startLine, pairLine, freeLine, readLine, writeLine, listLine, orNamed, pageNamed, parsed};
+ghost use Rattle.requests.specs.declared.Request.the-variants as request-is;
 
 fn start_line(line: &[u8], at: usize) -> Line
     requires { ⌜ at ≤ length (now line) ⌝ }
@@ -36,21 +36,9 @@ fn start_line(line: &[u8], at: usize) -> Line
     Line::Call(Request::Start(s, n, f, p), 0)
 }
 
-fn page_request(call: PageCall, i: u32, b: u32) -> Request
-    ensures { λ r. ⌜ r ≡ pageRequest call i b ⌝ }
-{
-    match call {
-        PageCall::Mark => Request::Mark(i, b),
-        PageCall::Drop => Request::Drop(i, b),
-        PageCall::Touch => Request::Touch(i, b),
-        PageCall::Look => Request::Look(i, b),
-        PageCall::Release => Request::Release(i, b),
-    }
-}
-
 fn page_line(line: &[u8], at: usize, call: PageCall) -> Line
     requires { ⌜ at ≤ length (now line) ⌝ }
-    ensures { λ r. ⌜ r ≡ pairLine (pageRequest call) (drop at (now (line .entry))) ⌝ }
+    ensures { λ r. ⌜ r ≡ pairLine (λ i b. request-is.Page call i b) (drop at (now (line .entry))) ⌝ }
 {
     let Field::Number(i, at) = number_after_blank(line, at) else {
         return Line::Bad;
@@ -61,7 +49,7 @@ fn page_line(line: &[u8], at: usize, call: PageCall) -> Line
     if at != line.len() {
         return Line::Bad;
     }
-    Line::Call(page_request(call, i, b), 0)
+    Line::Call(Request::Page(call, i, b), 0)
 }
 
 fn free_line(line: &[u8], at: usize) -> Line
@@ -141,6 +129,32 @@ fn list_line(line: &[u8], at: usize) -> Line
     Line::Call(Request::List(i), 0)
 }
 
+// What a line was found to name, else this call if the line begins with its name.
+fn or_named(found: Named, line: &[u8], word: &[u8], call: PageCall) -> Named
+    ensures { λ r. ⌜ r ≡ orNamed found (now (line .entry)) (now (word .entry)) call ⌝ }
+{
+    match found {
+        Named::Page(_, _) => found,
+        Named::Other => {
+            if begins_with(line, word) {
+                return Named::Page(call, word.len());
+            }
+            Named::Other
+        }
+    }
+}
+
+// The page call that a line begins with the name of.
+fn page_named(line: &[u8]) -> Named
+    ensures { λ r. ⌜ r ≡ pageNamed (now (line .entry)) ⌝ }
+{
+    let found = or_named(Named::Other, line, b"mark", PageCall::Mark);
+    let found = or_named(found, line, b"drop", PageCall::Drop);
+    let found = or_named(found, line, b"touch", PageCall::Touch);
+    let found = or_named(found, line, b"look", PageCall::Look);
+    or_named(found, line, b"release", PageCall::Release)
+}
+
 // The call that a line is, or that it is none.
 pub fn parse(line: &[u8]) -> Line
     ensures { λ r. ⌜ r ≡ parsed (now (line .entry)) ⌝ }
@@ -148,20 +162,8 @@ pub fn parse(line: &[u8]) -> Line
     if begins_with(line, b"start") {
         return start_line(line, 5);
     }
-    if begins_with(line, b"mark") {
-        return page_line(line, 4, PageCall::Mark);
-    }
-    if begins_with(line, b"drop") {
-        return page_line(line, 4, PageCall::Drop);
-    }
-    if begins_with(line, b"touch") {
-        return page_line(line, 5, PageCall::Touch);
-    }
-    if begins_with(line, b"look") {
-        return page_line(line, 4, PageCall::Look);
-    }
-    if begins_with(line, b"release") {
-        return page_line(line, 7, PageCall::Release);
+    if let Named::Page(call, at) = page_named(line) {
+        return page_line(line, at, call);
     }
     if begins_with(line, b"free") {
         return free_line(line, 4);

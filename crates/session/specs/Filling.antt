@@ -8,7 +8,7 @@ use Rattle.serving.specs.Serves.{Serves}
 use Rattle.requests.specs.declared.Reply.{Reply}
 use Rattle.requests.specs.declared.Request.{Request}
 use Rattle.requests.specs.declared.Request.the-variants.{Start, Page, Free, Translate, Read, Write, List as Listing}
-use Rattle.parsing.specs.Fields.{Unhexed}
+use Rattle.fields.specs.Fields.{Unhexed}
 use Rattle.printing.specs.Writing.{Says}
 
 -- a write's bytes; other requests leave it

@@ -22,8 +22,8 @@ use Rattle.requests.specs.declared.Request.{Request}
 use Rattle.requests.specs.declared.Request.the-variants.{Start, Page, Free, Translate, Read, Write, List as Listing}
 use Rattle.requests.specs.declared.Reply.{Reply}
 use Rattle.requests.specs.declared.Reply.the-variants as reply-is
-use Rattle.parsing.specs.Grammar.{bytesIn, allHex, parsed}
-use Rattle.parsing.specs.Fields.{hexOf, Unhexed}
+use Rattle.fields.specs.Fields.{bytesIn, allHex, hexOf, Unhexed}
+use Rattle.parsing.specs.Grammar.{parsed}
 use Rattle.parsing.specs.Laws.{few-bytes, write-hex}
 use Rattle.parsing.specs.declared.Line.{Line}
 use Rattle.parsing.specs.declared.Line.the-variants.{Call, Bad}

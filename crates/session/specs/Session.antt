@@ -7,8 +7,8 @@ use Rattle.machine.specs.Machine as machine
 use Rattle.requests.specs.Requests.{requested}
 use Rattle.requests.specs.declared.Request.{Request}
 use Rattle.requests.specs.declared.Request.the-variants.{Start, Page, Free, Translate, Read, Write, List as Listing}
-use Rattle.parsing.specs.Grammar.{bytesIn, parsed}
-use Rattle.parsing.specs.Fields.{hexOf}
+use Rattle.fields.specs.Fields.{bytesIn, hexOf}
+use Rattle.parsing.specs.Grammar.{parsed}
 use Rattle.parsing.specs.declared.Line.{Line}
 use Rattle.parsing.specs.declared.Line.the-variants.{Call, Bad}
 use Rattle.printing.specs.Text.{badLine, text}

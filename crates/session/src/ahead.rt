@@ -1,5 +1,5 @@
 // What a session does ahead of a call: the limits of a start, the bytes of a write.
-use parsing::unhex;
+use fields::unhex;
 use requests::Request;
 ghost use mathlib.Core.Bool.{not, _&&_};
 ghost use mathlib.Core.Path.{_≡_};

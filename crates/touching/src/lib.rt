@@ -59,7 +59,7 @@ fn fit(h: Head, count: &[u32], stack: &[u32], t: usize, a: usize) -> bool
 }
 
 // What to do about a page so seen.
-fn plan(h: Head, s: Sight, count: &[u32], stack: &[u32], t: usize) -> Plan
+fn plan_for(h: Head, s: Sight, count: &[u32], stack: &[u32], t: usize) -> Plan
     requires { ⌜ InReach s t (now count) (now stack) ⌝ }
     ensures { λ r. ⌜ r ≡ planFor h (now (count .entry)) (now (stack .entry)) t s ⌝ }
 {
@@ -124,7 +124,7 @@ fn planned(
     ensures { λ r. ⌜ Planned head space page (now (index .entry)) (now (count .entry)) (now (table .entry)) (now (helper .entry)) (now (stack .entry)) (now (cache .entry)) r ⌝ }
 {
     let s = see(head, space, page, index, count, table, helper, stack, cache);
-    plan(head, s, count, stack, all_places(head))
+    plan_for(head, s, count, stack, all_places(head))
 }
 
 // The touch of a call that passed the checks: a write checks once and touches many pages.

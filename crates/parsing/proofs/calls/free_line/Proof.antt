@@ -1,5 +1,5 @@
 -- The line ends here, or not.
-use Rattle.parsing.proofs.Reading.{end-here, more-here}
+use Rattle.fields.specs.Laws.{end-here, more-here}
 use Rattle.parsing.proofs.calls.free_line.Statement.{statement}
 use Rattle.parsing.proofs.calls.free_line.Tie as tie
 

@@ -1,6 +1,6 @@
 -- Two numbers, then the end.
 use borrow.Author.Needs.{needs}
-use Rattle.parsing.proofs.Reading.{end-here, more-here, took, took-none}
+use Rattle.fields.specs.Laws.{end-here, more-here, took, took-none}
 use Rattle.parsing.proofs.calls.page_line.Statement.{statement}
 use Rattle.parsing.proofs.calls.page_line.Tie as tie
 
@@ -26,11 +26,11 @@ returns-3 c =
 
 returns-4 : tie.Need-returns-4
 returns-4 c =
-    let at-b = c .before .before in
+    let at-b = c .before in
     let at-i = at-b .before .before .before .before in
     let i = took _ _ (at-i .before .before .before .number-after-blank .ensures) (at-i .before .i .given .1) in
     let b = took _ _ (at-b .before .before .before .number-after-blank2 .ensures) (at-b .before .b .given .1) in
-    rw (i .1, b .1, end-here _ _ (c .before .if1 .left), c .page-request .ensures)
+    rw (i .1, b .1, end-here _ _ (c .if1 .left))
 
 pub page-line-spec : {M : Type 1} → statement M
 page-line-spec =
@@ -45,5 +45,4 @@ page-line-spec =
     (λ c. search needs)
     returns-2
     returns-3
-    (λ c κs. search needs)
     returns-4)

@@ -1,7 +1,7 @@
 -- Three numbers, then the end; the last at most 256.
 use borrow.Author.Tests.{le-leb, lt-leb}
 use borrow.Author.Needs.{needs}
-use Rattle.parsing.proofs.Reading.{end-here, more-here, took, took-none}
+use Rattle.fields.specs.Laws.{end-here, more-here, took, took-none}
 use Rattle.parsing.proofs.calls.read_line.Statement.{statement}
 use Rattle.parsing.proofs.calls.read_line.Tie as tie
 

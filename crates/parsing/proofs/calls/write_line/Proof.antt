@@ -1,7 +1,7 @@
 -- Two numbers, then bytes.
 use mathlib.Core.Path.{sym, _∙_}
 use borrow.Author.Needs.{needs}
-use Rattle.parsing.proofs.Reading.{counted, uncounted, took, took-none}
+use Rattle.fields.specs.Laws.{took, took-none}
 use Rattle.parsing.proofs.calls.write_line.Statement.{statement}
 use Rattle.parsing.proofs.calls.write_line.Tie as tie
 
@@ -26,7 +26,7 @@ returns-3 c =
     let at-i = at-x .before .before .before .before in
     let i = took _ _ (at-i .before .before .before .number-after-blank .ensures) (at-i .before .i .given .1) in
     let x = took _ _ (at-x .before .before .before .number-after-blank2 .ensures) (at-x .before .x .given .1) in
-    rw (i .1, x .1, uncounted _ _ (sym (c .before .before .hex-count .ensures) ∙ c .enum-told3 .given .1))
+    rw (i .1, x .1, sym (c .before .before .hex-count .ensures) ∙ c .enum-told3 .given .1)
 
 returns-4 : tie.Need-returns-4
 returns-4 c =
@@ -34,7 +34,7 @@ returns-4 c =
     let at-i = at-x .before .before .before .before in
     let i = took _ _ (at-i .before .before .before .number-after-blank .ensures) (at-i .before .i .given .1) in
     let x = took _ _ (at-x .before .before .before .number-after-blank2 .ensures) (at-x .before .x .given .1) in
-    rw (i .1, x .1, counted _ _ (sym (c .before .before .before .hex-count .ensures) ∙ c .before .n .given .1))
+    rw (i .1, x .1, sym (c .before .before .before .hex-count .ensures) ∙ c .before .n .given .1)
 
 pub write-line-spec : {M : Type 1} → statement M
 write-line-spec =

@@ -1,0 +1,82 @@
+-- A line read from a place on: what each definition of a field says one byte further.
+use mathlib.Core.Path.{_≡_, refl, _∙_}
+use mathlib.Core.Bool.{Bool, true, false, cond, _&&_, _||_}
+use mathlib.Core.List.{List, [], _∷_}
+use mathlib.Core.Logic.{_⊎_, inl, inr}
+use Prim.Native.Nat.{ℕ, _+_, _-_, _/_, _%_, _≤_, _<_}
+use native.Mathlib.Omega.{arith}
+use borrow.Author.Tests.{eq-eqb, ne-eqb, leb-true}
+use lib.Dec.{eqb, leb}
+use lib.ListN.{length, drop, getD, length-drop}
+use Rattle.machine.specs.Laws.Sizes.{both}
+use Rattle.fields.specs.Fields.{begins, isDigit, isHex, allHex, hexCount}
+use Rattle.fields.specs.Laws.{here, over}
+use Rattle.fields.specs.declared.Bytes.the-variants.{Count, Wrong}
+
+-- ---- a word
+
+pub begins-not : (ws cs : List ℕ) → length cs < length ws → begins ws cs ≡ false
+unfolding begins
+begins-not [] cs h = absurd (omega arith)
+begins-not (w ∷ ws) [] h = refl
+begins-not (w ∷ ws) (c ∷ cs) h = rw (begins-not ws cs (omega arith)) (never (eqb c w))
+  where
+    never : (b : Bool) → b && false ≡ false
+    never true = refl
+    never false = refl
+
+module _ (word line : List ℕ) (i : ℕ) (w : i < length word) (l : i < length line) where
+  pub begins-step : getD line i 0 ≡ getD word i 0
+      → begins (drop i word) (drop i line) ≡ begins (drop (i + 1) word) (drop (i + 1) line)
+  unfolding begins
+  begins-step e = rw (here word i w, here line i l, eq-eqb (getD line i 0) (getD word i 0) e)
+
+  pub begins-other : (getD line i 0 ≡ getD word i 0 → ⊥) → begins (drop i word) (drop i line) ≡ false
+  unfolding begins
+  begins-other e = rw (here word i w, here line i l, ne-eqb (getD line i 0) (getD word i 0) e)
+
+pub begins-all : (word line : List ℕ) (i : ℕ) → length word ≤ i → begins (drop i word) line ≡ true
+unfolding begins
+begins-all word line i h = rw (over word i h)
+
+-- ---- what a digit is
+
+between : (a c b : ℕ) → leb a c && leb c b ≡ true → (a ≤ c) × (c ≤ b)
+between a c b h =
+    let p = both (leb a c) (leb c b) h in
+    (leb-true a c (p .0), leb-true c b (p .1))
+
+pub digit-range : (c : ℕ) → isDigit c ≡ true → (48 ≤ c) × (c ≤ 57)
+digit-range c h = between 48 c 57 h
+
+pub hex-range : (c : ℕ) → isHex c ≡ true → ((48 ≤ c) × (c ≤ 57)) ⊎ ((97 ≤ c) × (c ≤ 102))
+hex-range c h = go (isDigit c) (leb 97 c && leb c 102) (λ e. between 48 c 57 e) (λ e. between 97 c 102 e) h
+  where
+    go : {A B : Type 0} (a b : Bool) → (a ≡ true → A) → (b ≡ true → B) → a || b ≡ true → A ⊎ B
+    go true b f g e = inl (f refl)
+    go false b f g e = inr (g e)
+
+-- ---- hex
+
+module _ (line : List ℕ) (i : ℕ) (h : i < length line) where
+  pub hex-step : isHex (getD line i 0) ≡ true → allHex (drop i line) ≡ allHex (drop (i + 1) line)
+  unfolding allHex
+  hex-step e = rw (here line i h, e)
+
+  pub hex-not : isHex (getD line i 0) ≡ false → allHex (drop i line) ≡ false
+  unfolding allHex
+  hex-not e = rw (here line i h, e)
+
+pub hex-end : (line : List ℕ) (i : ℕ) → length line ≤ i → allHex (drop i line) ≡ true
+unfolding allHex
+hex-end line i h = rw (over line i h)
+
+-- bytes in hex after a blank, of a line that does not end here
+pub hex-after : (line : List ℕ) (at : ℕ) → at < length line
+    → hexCount (drop at line)
+    ≡ (let n = length line - at - 1 in
+    let fits = leb 2 n && leb n 512 && eqb (n % 2) 0 && allHex (drop (at + 1) line) in
+    cond (eqb (getD line at 0) 32 && fits) (Count (n / 2)) Wrong)
+hex-after line at h =
+    let e : length (drop (at + 1) line) ≡ length line - at - 1 = length-drop (at + 1) line ∙ (omega arith) in
+    rw (here line at h, e)
