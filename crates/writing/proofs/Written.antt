@@ -16,7 +16,8 @@ use Rattle.laws.specs.Models.{checkOf}
 use Rattle.laws.specs.Spans.{spanInside, writeLengths, AllTouched}
 use Rattle.laws.specs.SpanChecks.{write-check}
 use Rattle.writing.specs.Touches.{all-tables}
-use Rattle.writing.specs.Writing.{Admitted, write-admitted, span-pages-inside, writeRefusal, refusalOf, write-refused, write-done, withBytes}
+use Rattle.writing.specs.Writing.{Admitted, write-admitted, span-pages-inside, writeRefusal, refusalOf, write-refused, write-done}
+use Rattle.laws.specs.Bytes.{withBytes}
 use Rattle.lookup.specs.Ready.{Lookable}
 use Rattle.lookup.proofs.Sights.{lookable, still-ready}
 use Rattle.touching.specs.Fits.{Touchable}

@@ -1,0 +1,5 @@
+pub mod Words
+pub mod Steps
+pub mod Packed
+pub mod PutBit
+pub mod Seek
