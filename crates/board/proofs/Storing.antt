@@ -32,7 +32,8 @@ module _ {c₀ : Cursor} {index count : List ℕ} {slice : List Region} where
       let nothing : c₀ .left - c₀ .left ≡ 0 = omega arith in
       record { size = refl; after-last = refl; tells = rw nothing (none-told t) }
 
-  module _ {c : Cursor} {slice′ : List Region} (so-far : Stored c₀ index count slice c slice′) {r : Told} (told : Tells c index count r) (room : c₀ .left ≤ length slice) where
+  module _ {c : Cursor} {slice′ : List Region} (so-far : Stored c₀ index count slice c slice′) {r : Told} (told : Tells c index count r)
+      (room : c₀ .left ≤ length slice) where
     pub inside : r .rest .left < length slice′
     inside = omega (arith, so-far .tells .few, so-far .size, told .one-less)
 
@@ -48,7 +49,8 @@ module _ {c₀ : Cursor} {index count : List ℕ} {slice : List Region} where
         }
 
 -- all are stored
-module _ {h : Head} {i : ℕ} {index count : List ℕ} {slice slice′ : List Region} {r : Surveyed} (s : Surveys h i (length slice) index count r) {c : Cursor} where
+module _ {h : Head} {i : ℕ} {index count : List ℕ} {slice slice′ : List Region} {r : Surveyed} (s : Surveys h i (length slice) index count r)
+    {c : Cursor} where
   pub all-stored : Stored (r .regions) index count slice c slice′ → c .left ≤ 0 → (table helper stack cache link ram : List ℕ)
       → RecordsDid i (memory h index count table helper stack cache link ram) (r .answer) slice slice′
   all-stored stored done table helper stack cache link ram =

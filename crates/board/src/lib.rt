@@ -78,9 +78,11 @@ pub fn touch(
 ) -> Touched
     ensures { λ r. ⌜ ((ram : List ℕ) →
         Did (machine.touch space page)
-        (memory (now (head .entry)) (now (index .entry)) (now (count .entry)) (now (table .entry)) (now (helper .entry)) (now (stack .entry)) (now (cache .entry)) (now (link .entry)) ram)
+        (memory (now (head .entry)) (now (index .entry)) (now (count .entry)) (now (table .entry)) (now (helper .entry)) (now (stack .entry))
+        (now (cache .entry)) (now (link .entry)) ram)
         (touchedSays r)
-        (memory (now (head .exit)) (now (index .entry)) (now (count .exit)) (now (table .exit)) (now (helper .exit)) (now (stack .exit)) (now (cache .exit)) (now (link .exit)) ram)) ⌝ }
+        (memory (now (head .exit)) (now (index .entry)) (now (count .exit)) (now (table .exit)) (now (helper .exit)) (now (stack .exit)) (now (cache .exit))
+        (now (link .exit)) ram)) ⌝ }
 {
     let out = touching::touch(
         *head,
@@ -112,9 +114,11 @@ pub fn look(
 ) -> Looked
     ensures { λ r. ⌜ ((link ram : List ℕ) →
         Did (machine.look space page)
-        (memory (now (head .entry)) (now (index .entry)) (now (count .entry)) (now (table .entry)) (now (helper .entry)) (now (stack .entry)) (now (cache .entry)) link ram)
+        (memory (now (head .entry)) (now (index .entry)) (now (count .entry)) (now (table .entry)) (now (helper .entry)) (now (stack .entry))
+        (now (cache .entry)) link ram)
         (lookedSays r)
-        (memory (now (head .entry)) (now (index .entry)) (now (count .entry)) (now (table .entry)) (now (helper .entry)) (now (stack .entry)) (now (cache .entry)) link ram)) ⌝ }
+        (memory (now (head .entry)) (now (index .entry)) (now (count .entry)) (now (table .entry)) (now (helper .entry)) (now (stack .entry))
+        (now (cache .entry)) link ram)) ⌝ }
 {
     lookup::look(
         *head,
@@ -154,7 +158,8 @@ pub fn release(
 // The frames in the pool. Lent nothing but the head.
 pub fn free(head: &Head) -> Free
     ensures { λ r. ⌜ ((index count table helper stack cache link ram : List ℕ) →
-        Did (λ _. machine.free) (memory (now (head .entry)) index count table helper stack cache link ram) (freeSays r) (memory (now (head .entry)) index count table helper stack cache link ram)) ⌝ }
+        Did (λ _. machine.free) (memory (now (head .entry)) index count table helper stack cache link ram) (freeSays r)
+        (memory (now (head .entry)) index count table helper stack cache link ram)) ⌝ }
 {
     pool::free(*head)
 }
@@ -173,9 +178,11 @@ pub fn translate(
 ) -> Translated
     ensures { λ r. ⌜ ((link ram : List ℕ) →
         Did (machine.translate space address)
-        (memory (now (head .entry)) (now (index .entry)) (now (count .entry)) (now (table .entry)) (now (helper .entry)) (now (stack .entry)) (now (cache .entry)) link ram)
+        (memory (now (head .entry)) (now (index .entry)) (now (count .entry)) (now (table .entry)) (now (helper .entry)) (now (stack .entry))
+        (now (cache .entry)) link ram)
         (translatedSays r)
-        (memory (now (head .entry)) (now (index .entry)) (now (count .entry)) (now (table .entry)) (now (helper .entry)) (now (stack .entry)) (now (cache .entry)) link ram)) ⌝ }
+        (memory (now (head .entry)) (now (index .entry)) (now (count .entry)) (now (table .entry)) (now (helper .entry)) (now (stack .entry))
+        (now (cache .entry)) link ram)) ⌝ }
 {
     reading::translate(
         *head,
@@ -206,7 +213,8 @@ pub fn read(
 ) -> Copied
     ensures { λ r. ⌜ ((link : List ℕ) →
         ReadDid space address
-        (memory (now (head .entry)) (now (index .entry)) (now (count .entry)) (now (table .entry)) (now (helper .entry)) (now (stack .entry)) (now (cache .entry)) link (now (ram .entry)))
+        (memory (now (head .entry)) (now (index .entry)) (now (count .entry)) (now (table .entry)) (now (helper .entry)) (now (stack .entry))
+        (now (cache .entry)) link (now (ram .entry)))
         r (now (buffer .entry)) (now (buffer .exit))) ⌝ }
 {
     reading::read(
@@ -241,9 +249,11 @@ pub fn write(
 ) -> Done
     ensures { λ r. ⌜
         Did (machine.write space address (now (bytes .entry)))
-        (memory (now (head .entry)) (now (index .entry)) (now (count .entry)) (now (table .entry)) (now (helper .entry)) (now (stack .entry)) (now (cache .entry)) (now (link .entry)) (now (ram .entry)))
+        (memory (now (head .entry)) (now (index .entry)) (now (count .entry)) (now (table .entry)) (now (helper .entry)) (now (stack .entry))
+        (now (cache .entry)) (now (link .entry)) (now (ram .entry)))
         (doneSays r)
-        (memory (now (head .exit)) (now (index .entry)) (now (count .exit)) (now (table .exit)) (now (helper .exit)) (now (stack .exit)) (now (cache .exit)) (now (link .exit)) (now (ram .exit))) ⌝ }
+        (memory (now (head .exit)) (now (index .entry)) (now (count .exit)) (now (table .exit)) (now (helper .exit)) (now (stack .exit)) (now (cache .exit))
+        (now (link .exit)) (now (ram .exit))) ⌝ }
 {
     let out = writing::write(
         *head,
@@ -267,7 +277,8 @@ pub fn write(
 // listing; the borrow checker doesn't cover a slice of structs, so the loop over them is walked by hand.
 fn list_into(head: Head, space: u32, records: &mut [Region], index: &[u64], count: &[u32]) -> Listed
     ensures { λ r. ⌜ ((table helper stack cache link ram : List ℕ) →
-        RecordsDid space (memory head (now (index .entry)) (now (count .entry)) table helper stack cache link ram) r (now (records .entry)) (now (records .exit))) ⌝ }
+        RecordsDid space (memory head (now (index .entry)) (now (count .entry)) table helper stack cache link ram) r (now (records .entry))
+        (now (records .exit))) ⌝ }
 {
     let s = survey(head, space, records.len(), index, count);
     let mut rest = s.regions;
@@ -282,7 +293,8 @@ fn list_into(head: Head, space: u32, records: &mut [Region], index: &[u64], coun
 // One record a region of a space, ascending. Those after the last stay.
 pub fn list(head: &Head, space: u32, records: &mut [Region], index: &[u64], count: &[u32]) -> Listed
     ensures { λ r. ⌜ ((table helper stack cache link ram : List ℕ) →
-        RecordsDid space (memory (now (head .entry)) (now (index .entry)) (now (count .entry)) table helper stack cache link ram) r (now (records .entry)) (now (records .exit))) ⌝ }
+        RecordsDid space (memory (now (head .entry)) (now (index .entry)) (now (count .entry)) table helper stack cache link ram) r (now (records .entry))
+        (now (records .exit))) ⌝ }
 {
     list_into(*head, space, records, index, count)
 }

@@ -35,7 +35,8 @@ module _ (q : Request) (p : Parts) (wholeBytes wholeRecords : ℕ) where
   no-call e = absurd (let x : _≡_ {A = ℕ} 0 1 = cc in omega arith)
 
   -- a code with these parts, if its numbers pass
-  made : (t : Bool) (x : Request) (y : Parts) → (t ≡ true → Inside y wholeBytes wholeRecords) → cond t (Call x y) Unreadable ≡ Call q p → Inside p wholeBytes wholeRecords
+  made : (t : Bool) (x : Request) (y : Parts) → (t ≡ true → Inside y wholeBytes wholeRecords) → cond t (Call x y) Unreadable ≡ Call q p
+      → Inside p wholeBytes wholeRecords
   made true x y f e = let same : y ≡ p = cc in rw same at (f refl)
   made false x y f e = no-call e
 

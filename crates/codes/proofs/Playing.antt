@@ -83,11 +83,21 @@ pub record Playing (codes : List ℕ) (n : ℕ) (k₀ : Memory) (d₀ : Desk) (k
   pub records-long : length (d .records) ≡ length (d₀ .records)
 
 pub playing-none : (codes : List ℕ) (n : ℕ) (k : Memory) (d : Desk) → Playing codes n k d k d 0
-playing-none codes n k d = record { within = omega arith; events = []; turns = none; long = record { index = refl; count = refl; table = refl; helper = refl; stack = refl; cache = refl; link = refl; ram = refl }; replies-long = refl; bytes-long = refl; records-long = refl }
+playing-none codes n k d = record {
+  within = omega arith;
+  events = [];
+  turns = none;
+  long = record
+      { index = refl; count = refl; table = refl; helper = refl; stack = refl; cache = refl; link = refl; ram = refl };
+  replies-long = refl;
+  bytes-long = refl;
+  records-long = refl;
+}
 
 module _ (codes : List ℕ) (n : ℕ) (k₀ : Memory) (d₀ : Desk) (k : Memory) (d : Desk) (j : ℕ) (p : Playing codes n k₀ d₀ k d j) (more : j < n)
     (k′ : Memory) (reply′ bytes′ records′ : List ℕ) (same : Long k k′)
-    (reply-same : length reply′ ≡ length (part (3 * j) (3 * j + 3) (d .replies))) (bytes-same : length bytes′ ≡ length (d .bytes)) (records-same : length records′ ≡ length (d .records)) where
+    (reply-same : length reply′ ≡ length (part (3 * j) (3 * j + 3) (d .replies))) (bytes-same : length bytes′ ≡ length (d .bytes))
+    (records-same : length records′ ≡ length (d .records)) where
   abbrev wholeBytes : ℕ
   wholeBytes = length (d₀ .bytes)
 
@@ -110,7 +120,9 @@ module _ (codes : List ℕ) (n : ℕ) (k₀ : Memory) (d₀ : Desk) (k : Memory)
   one-turn (Call q x) e s =
       record {
         made = record { call = called q x d; lent = lengths k; answer = s .answer } ∷ [];
-        turned = rw (s .reply-is, s .bytes-are, s .records-are) (turn {k = k} {k₁ = k′} {d = d} {q = q} {p = x} {a = s .answer} e (s .did) (same-lengths k k′ same) none);
+        turned =
+            rw (s .reply-is, s .bytes-are, s .records-are)
+            (turn {k = k} {k₁ = k′} {d = d} {q = q} {p = x} {a = s .answer} e (s .did) (same-lengths k k′ same) none);
       }
 
   pub playing-more : PlayedOne (codeAt codes (length (d .bytes)) (length (d .records)) j) k (d .bytes) (d .records) k′ reply′ bytes′ records′

@@ -53,7 +53,8 @@ roomy-moves z k k₁ e r =
 module _ (k k₁ : Memory) (same : lengths k₁ ≡ lengths k) where
   room-moves : (q : Request) → RoomFor q k → RoomFor q k₁
   unfolding asked
-  room-moves (Start s n f p) room bytes records e = roomy-moves _ k k₁ same (room bytes records (subst (λ (l : Lent). asked (sizesOf (k .head)) (requested (Start s n f p) bytes records l) ≡ 0) same e))
+  room-moves (Start s n f p) room bytes records e =
+      roomy-moves _ k k₁ same (room bytes records (subst (λ (l : Lent). asked (sizesOf (k .head)) (requested (Start s n f p) bytes records l) ≡ 0) same e))
   room-moves (Page p i b) room bytes records e = tt
   room-moves Free room bytes records e = tt
   room-moves (Translate i x) room bytes records e = tt
@@ -66,12 +67,15 @@ module _ (k k₁ : Memory) (same : lengths k₁ ≡ lengths k) where
   room-in-moves (Call q p) room = room-moves q room
 
 module _ (codes : List ℕ) (wholeBytes wholeRecords : ℕ) where
-  rooms-rest : (j n : ℕ) (k k₁ : Memory) → lengths k₁ ≡ lengths k → Rooms codes wholeBytes wholeRecords j (suc n) k → Rooms codes wholeBytes wholeRecords (suc j) n k₁
+  rooms-rest : (j n : ℕ) (k k₁ : Memory) → lengths k₁ ≡ lengths k → Rooms codes wholeBytes wholeRecords j (suc n) k
+      → Rooms codes wholeBytes wholeRecords (suc j) n k₁
   rooms-rest j n k k₁ same rooms i h =
       let e : j + suc i ≡ suc j + i = omega arith in
-      room-in-moves k k₁ same (codeAt codes wholeBytes wholeRecords (suc j + i)) (subst (λ (i : ℕ). RoomIn (codeAt codes wholeBytes wholeRecords i) k) e (rooms (suc i) (omega arith)))
+      room-in-moves k k₁ same (codeAt codes wholeBytes wholeRecords (suc j + i))
+      (subst (λ (i : ℕ). RoomIn (codeAt codes wholeBytes wholeRecords i) k) e (rooms (suc i) (omega arith)))
 
-  rooms-first : (j n : ℕ) (k : Memory) (q : Request) (p : Parts) → codeAt codes wholeBytes wholeRecords j ≡ Call q p → Rooms codes wholeBytes wholeRecords j (suc n) k → RoomFor q k
+  rooms-first : (j n : ℕ) (k : Memory) (q : Request) (p : Parts) → codeAt codes wholeBytes wholeRecords j ≡ Call q p
+      → Rooms codes wholeBytes wholeRecords j (suc n) k → RoomFor q k
   rooms-first j n k q p e rooms = subst (λ (c : Code). RoomIn c k) e (rw add-zero at (rooms 0 (omega arith)))
 
   -- ---- a sequence, and the plain machine beside it

@@ -78,7 +78,8 @@ pub data Turns (codes : List ℕ) (wholeBytes wholeRecords : ℕ) : ℕ → ℕ 
   none : {j : ℕ} {k : Memory} {d : Desk} → Turns codes wholeBytes wholeRecords j 0 k d [] k d
   skip : {j n : ℕ} {k k′ : Memory} {d d′ : Desk} {es : List Event} → codeAt codes wholeBytes wholeRecords j ≡ Unreadable
       → Turns codes wholeBytes wholeRecords (suc j) n k (skipped j d) es k′ d′ → Turns codes wholeBytes wholeRecords j (suc n) k d es k′ d′
-  turn : {j n : ℕ} {k k₁ k′ : Memory} {d d′ : Desk} {es : List Event} {q : Request} {p : Parts} {a : Answer} → codeAt codes wholeBytes wholeRecords j ≡ Call q p
+  turn : {j n : ℕ} {k k₁ k′ : Memory} {d d′ : Desk} {es : List Event} {q : Request} {p : Parts} {a : Answer}
+      → codeAt codes wholeBytes wholeRecords j ≡ Call q p
       → Did (called q p d) k a k₁ → lengths k₁ ≡ lengths k → Turns codes wholeBytes wholeRecords (suc j) n k₁ (laid j p a d) es k′ d′
       → Turns codes wholeBytes wholeRecords j (suc n) k d (record { call = called q p d; lent = lengths k; answer = a } ∷ es) k′ d′
 

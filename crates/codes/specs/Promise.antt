@@ -55,4 +55,5 @@ module _ (codes : List ℕ) (n : ℕ) (k : Memory) (d : Desk) where
     -- and where the memory stands for a machine already, started or not
     pub honest : (m : State) → Stands m k → Rooms codes wholeBytes wholeRecords 0 n k → (d′ ≡ byMachine m .desk) × Stands (byMachine m .state) k′
     -- "One claim over every sequence of calls": of the calls after the start
-    pub demand-3 : (z : Sizes) → StartsFirst z → (e : Event) × (es : List Event) × (events ≡ e ∷ es) × let m = begun z [] in Demand3 m k es k′ (machineAt m k es)
+    pub demand-3 : (z : Sizes) → StartsFirst z
+        → (e : Event) × (es : List Event) × (events ≡ e ∷ es) × let m = begun z [] in Demand3 m k es k′ (machineAt m k es)

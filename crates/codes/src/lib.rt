@@ -62,9 +62,11 @@ fn play_one(
     requires { ⌜ length (now reply) ≡ 3 ⌝ }
     ensures { λ r. ⌜
         PlayedOne (decoded kind a b c d (length (now (bytes .entry))) (length (now (records .entry))))
-        (memory head (now (index .entry)) (now (count .entry)) (now (table .entry)) (now (helper .entry)) (now (stack .entry)) (now (cache .entry)) (now (link .entry)) (now (ram .entry)))
+        (memory head (now (index .entry)) (now (count .entry)) (now (table .entry)) (now (helper .entry)) (now (stack .entry)) (now (cache .entry))
+        (now (link .entry)) (now (ram .entry)))
         (now (bytes .entry)) (now (records .entry))
-        (memory r (now (index .exit)) (now (count .exit)) (now (table .exit)) (now (helper .exit)) (now (stack .exit)) (now (cache .exit)) (now (link .exit)) (now (ram .exit)))
+        (memory r (now (index .exit)) (now (count .exit)) (now (table .exit)) (now (helper .exit)) (now (stack .exit)) (now (cache .exit)) (now (link .exit))
+        (now (ram .exit)))
         (now (reply .exit)) (now (bytes .exit)) (now (records .exit)) ⌝ }
 {
     let code = decoding::decode(kind, a, b, c, d, bytes.len(), records.len());
@@ -130,9 +132,11 @@ pub fn play(
 ) -> Head
     ensures { λ r. ⌜
         Plays (now (codes .entry)) (min (length (now (codes .entry)) / 5) (length (now (replies .entry)) / 3))
-        (memory head (now (index .entry)) (now (count .entry)) (now (table .entry)) (now (helper .entry)) (now (stack .entry)) (now (cache .entry)) (now (link .entry)) (now (ram .entry)))
+        (memory head (now (index .entry)) (now (count .entry)) (now (table .entry)) (now (helper .entry)) (now (stack .entry)) (now (cache .entry))
+        (now (link .entry)) (now (ram .entry)))
         (record { replies = now (replies .entry); bytes = now (bytes .entry); records = now (records .entry) })
-        (memory r (now (index .exit)) (now (count .exit)) (now (table .exit)) (now (helper .exit)) (now (stack .exit)) (now (cache .exit)) (now (link .exit)) (now (ram .exit)))
+        (memory r (now (index .exit)) (now (count .exit)) (now (table .exit)) (now (helper .exit)) (now (stack .exit)) (now (cache .exit)) (now (link .exit))
+        (now (ram .exit)))
         (record { replies = now (replies .exit); bytes = now (bytes .exit); records = now (records .exit) }) ⌝ }
 {
     let n = least(codes.len() / 5, replies.len() / 3);

@@ -108,9 +108,11 @@ pub extern "C" fn corwystal_touch(
     ensures { λ r. ⌜ Encodes Touched touchedSays (λ a.
         (ram : List ℕ) →
         Did (machine.touch space page)
-        (memory (now (head .entry)) (now (index .entry)) (now (count .entry)) (now (table .entry)) (now (helper .entry)) (now (stack .entry)) (now (cache .entry)) (now (link .entry)) ram)
+        (memory (now (head .entry)) (now (index .entry)) (now (count .entry)) (now (table .entry)) (now (helper .entry)) (now (stack .entry))
+        (now (cache .entry)) (now (link .entry)) ram)
         (touchedSays a)
-        (memory (now (head .exit)) (now (index .entry)) (now (count .exit)) (now (table .exit)) (now (helper .exit)) (now (stack .exit)) (now (cache .exit)) (now (link .exit)) ram)) r ⌝ }
+        (memory (now (head .exit)) (now (index .entry)) (now (count .exit)) (now (table .exit)) (now (helper .exit)) (now (stack .exit)) (now (cache .exit))
+        (now (link .exit)) ram)) r ⌝ }
 {
     requests::encode_touched(board::touch(
         head,
@@ -142,9 +144,11 @@ pub extern "C" fn corwystal_look(
     ensures { λ r. ⌜ Encodes Looked lookedSays (λ a.
         (link ram : List ℕ) →
         Did (machine.look space page)
-        (memory (now (head .entry)) (now (index .entry)) (now (count .entry)) (now (table .entry)) (now (helper .entry)) (now (stack .entry)) (now (cache .entry)) link ram)
+        (memory (now (head .entry)) (now (index .entry)) (now (count .entry)) (now (table .entry)) (now (helper .entry)) (now (stack .entry))
+        (now (cache .entry)) link ram)
         (lookedSays a)
-        (memory (now (head .entry)) (now (index .entry)) (now (count .entry)) (now (table .entry)) (now (helper .entry)) (now (stack .entry)) (now (cache .entry)) link ram)) r ⌝ }
+        (memory (now (head .entry)) (now (index .entry)) (now (count .entry)) (now (table .entry)) (now (helper .entry)) (now (stack .entry))
+        (now (cache .entry)) link ram)) r ⌝ }
 {
     requests::encode_looked(board::look(
         head,
@@ -176,7 +180,8 @@ pub extern "C" fn corwystal_release(
         Did (machine.release space page)
         (memory (now (head .entry)) (now (index .entry)) (now (count .entry)) (now (table .entry)) helper (now (stack .entry)) cache (now (link .entry)) ram)
         (releasedSays a)
-        (memory (now (head .exit)) (now (index .entry)) (now (count .exit)) (now (table .entry)) helper (now (stack .entry)) cache (now (link .exit)) ram)) r ⌝ }
+        (memory (now (head .exit)) (now (index .entry)) (now (count .exit)) (now (table .entry)) helper (now (stack .entry)) cache (now (link .exit)) ram)) r
+        ⌝ }
 {
     requests::encode_released(board::release(head, space, page, index, count, table, stack, link))
 }
@@ -186,7 +191,8 @@ pub extern "C" fn corwystal_release(
 pub extern "C" fn corwystal_free_count(head: &Head) -> Answer
     ensures { λ r. ⌜ Encodes Free freeSays (λ a.
         (index count table helper stack cache link ram : List ℕ) →
-        Did (λ _. machine.free) (memory (now (head .entry)) index count table helper stack cache link ram) (freeSays a) (memory (now (head .entry)) index count table helper stack cache link ram)) r ⌝ }
+        Did (λ _. machine.free) (memory (now (head .entry)) index count table helper stack cache link ram) (freeSays a)
+        (memory (now (head .entry)) index count table helper stack cache link ram)) r ⌝ }
 {
     requests::encode_free(board::free(head))
 }
@@ -207,9 +213,11 @@ pub extern "C" fn corwystal_translate(
     ensures { λ r. ⌜ Encodes Translated translatedSays (λ a.
         (link ram : List ℕ) →
         Did (machine.translate space address)
-        (memory (now (head .entry)) (now (index .entry)) (now (count .entry)) (now (table .entry)) (now (helper .entry)) (now (stack .entry)) (now (cache .entry)) link ram)
+        (memory (now (head .entry)) (now (index .entry)) (now (count .entry)) (now (table .entry)) (now (helper .entry)) (now (stack .entry))
+        (now (cache .entry)) link ram)
         (translatedSays a)
-        (memory (now (head .entry)) (now (index .entry)) (now (count .entry)) (now (table .entry)) (now (helper .entry)) (now (stack .entry)) (now (cache .entry)) link ram)) r ⌝ }
+        (memory (now (head .entry)) (now (index .entry)) (now (count .entry)) (now (table .entry)) (now (helper .entry)) (now (stack .entry))
+        (now (cache .entry)) link ram)) r ⌝ }
 {
     requests::encode_translated(board::translate(
         head,
@@ -242,7 +250,8 @@ pub extern "C" fn corwystal_read(
     ensures { λ r. ⌜ Encodes Copied (λ a. copiedSays a (now (buffer .exit))) (λ a.
         (link : List ℕ) →
         ReadDid space address
-        (memory (now (head .entry)) (now (index .entry)) (now (count .entry)) (now (table .entry)) (now (helper .entry)) (now (stack .entry)) (now (cache .entry)) link (now (ram .entry)))
+        (memory (now (head .entry)) (now (index .entry)) (now (count .entry)) (now (table .entry)) (now (helper .entry)) (now (stack .entry))
+        (now (cache .entry)) link (now (ram .entry)))
         a (now (buffer .entry)) (now (buffer .exit))) r ⌝ }
 {
     let n = buffer.len();
@@ -282,9 +291,11 @@ pub extern "C" fn corwystal_write(
 ) -> Answer
     ensures { λ r. ⌜ Encodes Done doneSays (λ a.
         Did (machine.write space address (now (bytes .entry)))
-        (memory (now (head .entry)) (now (index .entry)) (now (count .entry)) (now (table .entry)) (now (helper .entry)) (now (stack .entry)) (now (cache .entry)) (now (link .entry)) (now (ram .entry)))
+        (memory (now (head .entry)) (now (index .entry)) (now (count .entry)) (now (table .entry)) (now (helper .entry)) (now (stack .entry))
+        (now (cache .entry)) (now (link .entry)) (now (ram .entry)))
         (doneSays a)
-        (memory (now (head .exit)) (now (index .entry)) (now (count .exit)) (now (table .exit)) (now (helper .exit)) (now (stack .exit)) (now (cache .exit)) (now (link .exit)) (now (ram .exit)))) r ⌝ }
+        (memory (now (head .exit)) (now (index .entry)) (now (count .exit)) (now (table .exit)) (now (helper .exit)) (now (stack .exit)) (now (cache .exit))
+        (now (link .exit)) (now (ram .exit)))) r ⌝ }
 {
     requests::encode_done(board::write(
         head,

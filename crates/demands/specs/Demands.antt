@@ -29,7 +29,8 @@ pub record Demand1 (c : Lent → Call) (k : Memory) (a : Answer) (k′ : Memory)
 
 -- "Every refusal leaves .. the read buffer and the record slice as they stood"
 abbrev pub Demand1Read : Type 0
-Demand1Read = (i x : ℕ) (k : Memory) (r : Copied) (buffer buffer′ : List ℕ) → ReadDid i x k r buffer buffer′ → (n : ℕ) → r ≡ copied-is.Refused n → buffer′ ≡ buffer
+Demand1Read =
+    (i x : ℕ) (k : Memory) (r : Copied) (buffer buffer′ : List ℕ) → ReadDid i x k r buffer buffer′ → (n : ℕ) → r ≡ copied-is.Refused n → buffer′ ≡ buffer
 
 abbrev pub Demand1List : Type 0
 Demand1List = (i : ℕ) (k : Memory) (r : Listed) (slice slice′ : List ℕ) → ListDid i k r slice slice′ → (n : ℕ) → r ≡ listed-is.Refused n → slice′ ≡ slice
@@ -75,7 +76,8 @@ pub record Demand3 (begun : State) (k : Memory) (es : List Event) (k′ : Memory
   -- 2. "each frame is once in the pool or held once"
   pub held : (f : ℕ) → f < m .sizes .frames → timesFree f m + timesHeld f m ≡ 1
   -- 3. "free + resident = F", "and the records that list gives for all spaces, with room for every region, add up to the same"
-  pub counted : (a : Answer) (k″ : Memory) → Did (λ _. free) k′ a k″ → (n : ℕ) × (a ≡ frames n) × (n ≡ length (m .pool)) × (n + residentPages m ≡ m .sizes .frames)
+  pub counted : (a : Answer) (k″ : Memory) → Did (λ _. free) k′ a k″
+      → (n : ℕ) × (a ≡ frames n) × (n ≡ length (m .pool)) × (n + residentPages m ≡ m .sizes .frames)
   pub listed : (room : ℕ → ℕ) (a : ℕ → Answer) (k″ : ℕ → Memory)
       → ((i : ℕ) → i < m .sizes .spaces → (length (recordsOf m i) ≤ room i) × Did (list i (room i)) k′ (a i) (k″ i))
       → (given : ℕ → List Region) × ((i : ℕ) → i < m .sizes .spaces → a i ≡ regions (given i))
@@ -83,8 +85,10 @@ pub record Demand3 (begun : State) (k : Memory) (es : List Event) (k′ : Memory
   -- 4. "a stored byte stays until stored again or released": "a read of that one byte is accepted and gives it, .. every accepted read over
   -- the address has it at that place, and .. the RAM holds it where translate points"
   pub one-read : (i x v : ℕ) → StoredAt begun k es i x v → (a : Answer) (k″ : Memory) → Did (read i x 1) k′ a k″ → a ≡ bytes (v ∷ [])
-  pub every-read : (i x v : ℕ) → StoredAt begun k es i x v → (y n : ℕ) (vs : List ℕ) (k″ : Memory) → Did (read i y n) k′ (bytes vs) k″ → y ≤ x → x < y + n → getD vs (x - y) 0 ≡ v
-  pub in-ram : (i x v : ℕ) → StoredAt begun k es i x v → (a : Answer) (k″ : Memory) → Did (translate i x) k′ a k″ → (p : ℕ) × (a ≡ at p) × (getD (k′ .ram) p 0 ≡ v)
+  pub every-read : (i x v : ℕ) → StoredAt begun k es i x v → (y n : ℕ) (vs : List ℕ) (k″ : Memory) → Did (read i y n) k′ (bytes vs) k″ → y ≤ x → x < y + n
+      → getD vs (x - y) 0 ≡ v
+  pub in-ram : (i x v : ℕ) → StoredAt begun k es i x v → (a : Answer) (k″ : Memory) → Did (translate i x) k′ a k″
+      → (p : ℕ) × (a ≡ at p) × (getD (k′ .ram) p 0 ≡ v)
   -- 5. "a release then changes at most two table words, no index word and no RAM"
   pub constant : (i b : ℕ) (a : Answer) (k″ : Memory) → Did (release i b) k′ a k″ → Tables (sizesOf (k′ .head)) 0 1 0 0 0 0 1 k′ k″
 

@@ -33,7 +33,8 @@ pub demand-2 : Demand2
 demand-2 m k k′ es q = sequence-follows m k k′ es q .answers-are
 
 -- no two resident addresses share a byte
-addresses-apart : (m : State) (k : Memory) → Holds m k → (i x j y p : ℕ) (a b : Memory) → Did (translate i x) k (at p) a → Did (translate j y) k (at p) b → Same i x j y
+addresses-apart : (m : State) (k : Memory) → Holds m k → (i x j y p : ℕ) (a b : Memory) → Did (translate i x) k (at p) a → Did (translate j y) k (at p) b
+    → Same i x j y
 addresses-apart m k H i x j y p a b d e =
     let r = translate-resident m k H i x p a d in
     let t = translate-resident m k H j y p b e in

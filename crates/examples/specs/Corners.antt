@@ -2,7 +2,8 @@
 use mathlib.Core.Path.{_≡_, refl}
 use mathlib.Core.List.{List, [], _∷_, _++_}
 use lib.ListN.{replicate}
-use Rattle.machine.specs.Machine.{Lent, Call, start, mark, drop, touch, look, release, free, translate, read, write, list, Answer, done, old, new, resident, absent, pages, frames, at, bytes, regions, refused, refusedAfter}
+use Rattle.machine.specs.Machine.{Lent, Call, start, mark, drop, touch, look, release, free, translate, read, write, list, Answer, done, old, new, resident}
+use Rattle.machine.specs.Machine.{absent, pages, frames, at, bytes, regions, refused, refusedAfter}
 use Rattle.examples.specs.Session.{all, sizes, played}
 
 abbrev says : List Call → List Answer → Type 0
@@ -13,7 +14,8 @@ nothing = record { index = 0; count = 0; table = 0; helper = 0; stack = 0; cache
 
 -- no start made: 1 for every call but start
 no-start-made : says
-    (mark 0 0 all ∷ drop 0 0 all ∷ touch 0 0 all ∷ look 0 0 all ∷ release 0 0 all ∷ free ∷ translate 0 0 all ∷ read 0 0 0 all ∷ write 0 0 [] all ∷ list 0 9 all ∷ [])
+    (mark 0 0 all ∷ drop 0 0 all ∷ touch 0 0 all ∷ look 0 0 all ∷ release 0 0 all ∷ free ∷ translate 0 0 all ∷ read 0 0 0 all ∷ write 0 0 [] all ∷ list 0 9
+    all ∷ [])
     (refused 1 ∷ refused 1 ∷ refusedAfter 1 0 ∷ refusedAfter 1 0 ∷ replicate 6 (refused 1))
 unfolding played
 no-start-made = refl
@@ -73,7 +75,8 @@ drops = refl
 
 -- a find that lands in a lower space counts as it ran, and the page has no region
 lower-space : says
-    (start (sizes 2 64 3 256) all ∷ mark 0 0 all ∷ look 1 0 all ∷ touch 1 0 all ∷ look 0 63 all ∷ mark 1 1 all ∷ touch 1 0 all ∷ touch 1 2 all ∷ look 1 2 all ∷ touch 1 2 all ∷ [])
+    (start (sizes 2 64 3 256) all ∷ mark 0 0 all ∷ look 1 0 all ∷ touch 1 0 all ∷ look 0 63 all ∷ mark 1 1 all ∷ touch 1 0 all ∷ touch 1 2 all ∷ look 1 2 all
+    ∷ touch 1 2 all ∷ [])
     (done ∷ done ∷ refusedAfter 4 3 ∷ refusedAfter 4 3 ∷ absent 1 ∷ done ∷ refusedAfter 4 3 ∷ new 0 1 ∷ resident 0 ∷ old 0 ∷ [])
 unfolding played
 lower-space = refl

@@ -8,7 +8,10 @@ use lib.Dec.{eqb}
 use lib.ListN.{replicate, take, drop as rest}
 use Rattle.sequence.specs.Lists.{tabulate}
 use Rattle.places.specs.Places.{lastBelow, wordsRead, size}
-use Rattle.machine.specs.Machine.{Sizes, State, Lent, unstarted, Call, start, mark, drop, touch, look, release, free, translate, read, write, list, Answer, done, old, new, resident, absent, pages, frames, at, bytes, regions, refused, refusedAfter, answers, afterAll, step, asked, accepted, sizesOk, isPageSize, enough, startIn, frameIn, firstAbsence, anyOutside, countAbsent, touchAll, stored, untilStart, records}
+use Rattle.machine.specs.Machine.{Sizes, State, Lent, unstarted, Call, start, mark, drop, touch, look, release, free, translate, read, write, list, Answer}
+use Rattle.machine.specs.Machine.{done, old, new, resident, absent, pages, frames, at, bytes, regions, refused, refusedAfter, answers, afterAll, step, asked}
+use Rattle.machine.specs.Machine.{accepted, sizesOk, isPageSize, enough, startIn, frameIn, firstAbsence, anyOutside, countAbsent, touchAll, stored}
+use Rattle.machine.specs.Machine.{untilStart, records}
 
 -- every buffer as long as it may ever have to be
 abbrev pub all : Lent
@@ -53,7 +56,8 @@ ram = replicate 768 7
 
 -- the answers from no start made, with every definition open
 unfoldable pub played : List Call → List Answer
-unfolding answers step asked accepted sizesOk isPageSize enough size tabulate startIn lastBelow frameIn wordsRead firstAbsence anyOutside countAbsent touchAll stored untilStart records
+unfolding answers step asked accepted sizesOk isPageSize enough size tabulate startIn lastBelow frameIn wordsRead firstAbsence anyOutside countAbsent
+    touchAll stored untilStart records
 played calls = answers (unstarted ram) calls
 
 session-says : played session ≡ firstTenSay ++ absent 1 ∷ new 2 1 ∷ refusedAfter 3 0 ∷ done ∷ new 0 1 ∷ pages 3 ∷ refused 6 ∷ []

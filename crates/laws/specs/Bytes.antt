@@ -30,7 +30,8 @@ bytes-hold m k ram h e =
           };
       index-is = h .index-is;
       counts = h .counts;
-      entries = λ a j l. let p = h .entries a j l in record { stack-is = p .stack-is; helper-is = p .helper-is; cache-is = p .cache-is; table-is = p .table-is; room = p .room };
+      entries = λ a j l. let p = h .entries a j l in record
+          { stack-is = p .stack-is; helper-is = p .helper-is; cache-is = p .cache-is; table-is = p .table-is; room = p .room };
       links = h .links;
       pooled = h .pooled;
       ram-is = refl;

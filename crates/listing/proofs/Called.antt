@@ -86,18 +86,21 @@ module _ (h : Head) (ws count : List ℕ) (i room no : ℕ) (checked : no ≡ ch
           told = refl;
           fits = omega arith;
           did = λ rs shows table helper stack cache link ram.
-              list-short i room (memory h ws count table helper stack cache link ram) rs no checked passes regions (counts table helper stack cache link ram) (omega arith);
+              list-short i room (memory h ws count table helper stack cache link ram) rs no checked passes regions (counts table helper stack cache link ram)
+              (omega arith);
         }
 
     pub to-tell : n ≤ room → Surveys h i room ws count (record { answer = Regions regions; regions = record { left = n; places = t; lo = lo; end = lo + w } })
     to-tell enough =
         let inside = space-inside h (length ws) (length count) i no checked passes t lo w t-is lo-is w-is in
         record {
-          tellable = record { low = inside .0; few = inside .1; count-long = rw t-is (is-ready h (length ws) (length count) i no checked passes .lent .count refl) };
+          tellable =
+              record { low = inside .0; few = inside .1; count-long = rw t-is (is-ready h (length ws) (length count) i no checked passes .lent .count refl) };
           told = sym n-is;
           fits = enough;
           did = λ rs shows table helper stack cache link ram.
-              list-filled i room (memory h ws count table helper stack cache link ram) rs no checked passes regions (counts table helper stack cache link ram) (omega arith)
+              list-filled i room (memory h ws count table helper stack cache link ram) rs no checked passes regions (counts table helper stack cache link ram)
+              (omega arith)
               (λ m o.
               let x = indexed table helper stack cache link ram m o in
               shows m x (counted table helper stack cache link ram m o) (n-is ∙ many m x) ∙ same-records table helper stack cache link ram m o);
@@ -109,7 +112,8 @@ module _ {h : Head} {i : ℕ} {ws count : List ℕ} (slice : List ℕ) {r : Surv
   room-found : 3 * r .regions .left ≤ length slice
   room-found = omega (arith, s .fits, div-mul-le-self (length slice) 3)
 
-  pub filled : {slice′ : List ℕ} → Fills (r .regions) ws count slice slice′ → (table helper stack cache link ram : List ℕ) → ListDid i (memory h ws count table helper stack cache link ram) (r .answer) slice slice′
+  pub filled : {slice′ : List ℕ} → Fills (r .regions) ws count slice slice′ → (table helper stack cache link ram : List ℕ)
+      → ListDid i (memory h ws count table helper stack cache link ram) (r .answer) slice slice′
   filled {slice′} fills table helper stack cache link ram =
       let n = s .told in
       record {

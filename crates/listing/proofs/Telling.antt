@@ -24,7 +24,12 @@ module _ {c : Cursor} {ws count : List ℕ} {b : Below} (some : 0 < c .left) (t 
     pub region-asks : (c .lo ≤ a) × (a < c .end) × (c .end ≤ 262144)
     region-asks = (start-inside found h .0, start-inside found h .1, omega (arith, t .low, t .few))
 
-    pub start-told : Tells c ws count (record { region = record { start = a - c .lo; length = c .end - a; resident = at count a }; rest = record { left = c .left - 1; places = c .places; lo = c .lo; end = a } })
+    pub start-told : Tells c ws count
+        (record {
+          region = record { start = a - c .lo; length = c .end - a; resident = at count a };
+          rest = record
+              { left = c .left - 1; places = c .places; lo = c .lo; end = a };
+        })
     start-told =
         let inside = start-inside found h in
         record {
@@ -37,7 +42,8 @@ module _ {c : Cursor} {ws count : List ℕ} {b : Below} (some : 0 < c .left) (t 
         }
 
   -- which no honest index answers
-  pub nothing-told : b ≡ Nothing → (r : Region) → Tells c ws count (record { region = r; rest = record { left = c .left - 1; places = c .places; lo = c .lo; end = c .end } })
+  pub nothing-told : b ≡ Nothing → (r : Region)
+      → Tells c ws count (record { region = r; rest = record { left = c .left - 1; places = c .places; lo = c .lo; end = c .end } })
   nothing-told h r =
       record {
         one-less = omega arith;

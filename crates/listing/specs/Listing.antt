@@ -115,7 +115,8 @@ module _ (i room : ℕ) (k : Memory) (rs : List Region) where
   list-refused (suc n) e d = early-did (list i room) k n (sym (e ∙ list-check k i room))
 
   module _ (n : ℕ) (checked : n ≡ checkOf (k .head) (markLengths k) i true) (passes : n ≡ 0) where
-    listed : (a : Answer) → Later (list i room (lengths k)) a → ((m : State) → Holds m k → a ≡ listIf (recordsOf m i) (leb (length (recordsOf m i)) room)) → Did (list i room) k a k
+    listed : (a : Answer) → Later (list i room (lengths k)) a → ((m : State) → Holds m k → a ≡ listIf (recordsOf m i) (leb (length (recordsOf m i)) room))
+        → Did (list i room) k a k
     unfolding accepted
     listed a later says =
         let c = list i room (lengths k) in

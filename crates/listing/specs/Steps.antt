@@ -55,7 +55,8 @@ Many t lo e ws n = (m : State) → Indexed m t ws → n ≡ length (recordsBelow
 
 -- on honest memory, if as many are left as there are, they are rs
 abbrev pub Shows : Cursor → List ℕ → List ℕ → List Region → Type 0
-Shows c ws count rs = (m : State) → Indexed m (c .places) ws → Counted m (c .places) count → c .left ≡ length (recordsBelow m (c .lo) (c .end)) → rs ≡ recordsBelow m (c .lo) (c .end)
+Shows c ws count rs = (m : State) → Indexed m (c .places) ws → Counted m (c .places) count → c .left ≡ length (recordsBelow m (c .lo) (c .end)) → rs
+    ≡ recordsBelow m (c .lo) (c .end)
 
 -- there is a count at every place
 pub record Tellable (c : Cursor) (count : List ℕ) : Type 0 where
@@ -79,7 +80,8 @@ pub record Surveys (h : Head) (i room : ℕ) (ws count : List ℕ) (r : Surveyed
   pub told : recordsFilled (r .answer) ≡ r .regions .left
   pub fits : r .regions .left ≤ room
   pub did : (rs : List Region) → Shows (r .regions) ws count rs → (table helper stack cache link ram : List ℕ)
-      → Did (list i room) (memory h ws count table helper stack cache link ram) (listedSays (r .answer) rs) (memory h ws count table helper stack cache link ram)
+      → Did (list i room) (memory h ws count table helper stack cache link ram) (listedSays (r .answer) rs)
+      (memory h ws count table helper stack cache link ram)
 
 -- ---- a slice of numbers, three a record
 

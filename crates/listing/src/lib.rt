@@ -213,7 +213,8 @@ fn fill(index: &[u64], count: &[u32], records: &mut [u32], regions: Cursor)
 // the last stay.
 pub fn list(head: Head, space: u32, records: &mut [u32], index: &[u64], count: &[u32]) -> Listed
     ensures { λ r. ⌜ ((table helper stack cache link ram : List ℕ) →
-        ListDid space (memory head (now (index .entry)) (now (count .entry)) table helper stack cache link ram) r (now (records .entry)) (now (records .exit))) ⌝ }
+        ListDid space (memory head (now (index .entry)) (now (count .entry)) table helper stack cache link ram) r (now (records .entry))
+        (now (records .exit))) ⌝ }
 {
     let s = survey(head, space, records.len() / 3, index, count);
     let regions = s.regions;

@@ -10,7 +10,8 @@ use lib.Dec.{leb}
 use lib.ListN.{length, getD}
 use Rattle.places.specs.Places.{lastBelow}
 use Rattle.index.specs.Answers as index
-use Rattle.machine.specs.Machine.{Sizes, places, placeOf, State, isStart, region, startOf, notBelow, frameIn, wordsAt, outside, unmapped, mapped, pageOf, pageAt}
+use Rattle.machine.specs.Machine.{Sizes, places, placeOf, State, isStart, region, startOf, notBelow, frameIn, wordsAt, outside, unmapped, mapped, pageOf}
+use Rattle.machine.specs.Machine.{pageAt}
 use Rattle.machine.specs.Claims.{noPair}
 use Rattle.machine.specs.Laws.Sizes.{both, place-below}
 use Rattle.machine.specs.Laws.Regions.{owner-of}
@@ -97,7 +98,8 @@ module _ (m : State) (k : Memory) (h : Holds m k) where
       }))
 
   -- and one in a region that fails it is absent there
-  not-resident : (p a : ℕ) → startOf m p ≡ some a → residentOk (k .count) (k .helper) (k .stack) (k .cache) (places (m .sizes)) p ≡ false → frameIn p (region m a) ≡ none
+  not-resident : (p a : ℕ) → startOf m p ≡ some a → residentOk (k .count) (k .helper) (k .stack) (k .cache) (places (m .sizes)) p ≡ false
+      → frameIn p (region m a) ≡ none
   not-resident p a own fails = go (frameIn p (region m a)) refl
     where
       go : (o : Option ℕ) → frameIn p (region m a) ≡ o → o ≡ none
@@ -147,4 +149,5 @@ module _ (m : State) (k : Memory) (h : Holds m k) (i b : ℕ) (in-space : i < m 
   unfolding Seen
   seen-honest r seen =
       seen-if (residentOk (k .count) (k .helper) (k .stack) (k .cache) (places (m .sizes)) p) refl r
-      (subst (λ (z : Sizes). Seen (z .frames) (places z) (placeOf z i 0) (placeOf z i b) (k .index) (k .count) (k .table) (k .helper) (k .stack) (k .cache) r) (h .sizes-are) seen)
+      (subst (λ (z : Sizes). Seen (z .frames) (places z) (placeOf z i 0) (placeOf z i b) (k .index) (k .count) (k .table) (k .helper) (k .stack) (k .cache)
+      r) (h .sizes-are) seen)

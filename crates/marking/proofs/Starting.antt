@@ -64,8 +64,12 @@ module _ (head : Head) (s n f bytes : ℕ) (ws count : List ℕ) (made : MadeSiz
     pub start-refused : (h′ : Head) (a : Answer) → (number ≡ 0 → ⊥) → (h′ ≡ head) × (a ≡ refused number) → DidStart h′ a ws count
     start-refused h′ a fails r table helper stack cache link ram =
         start-did s n f bytes _ a _
-        (rw (← sized, made-is)
-        (size .shift, refl, checked-no _ _ number _ _ _ a checked fails (r .1) (ap (λ (x : Head). memory x ws count table helper stack cache link ram) (r .0))))
+        (rw (← sized, made-is) (
+          size .shift,
+          refl,
+          checked-no _ _ number _ _ _ a checked fails (r .1)
+              (ap (λ (x : Head). memory x ws count table helper stack cache link ram) (r .0)),
+        ))
 
     pub start-begun : (h′ : Head) (a : Answer) (ws′ count′ : List ℕ) → number ≡ 0 → Begins next ws count h′ a ws′ count′ → DidStart h′ a ws′ count′
     start-begun h′ a ws′ count′ pass d table helper stack cache link ram =

@@ -25,7 +25,9 @@ use Rattle.index.specs.declared.Found.{Found}
 use Rattle.index.specs.Words.{indexOf, bitAt}
 use Rattle.index.specs.Promise.{Put, Sought}
 use Rattle.index.specs.Laws.{length-index, index-front, index-bit, index-ext}
-use Rattle.machine.specs.Machine.{Sizes, places, placeOf, isPageSize, sizesOk, firstOf, State, Pair, isStart, region, startOf, notBelow, wordsAt, Lent, Uses, uses, Call, start, mark, drop, facts, asked, Answer, done, refused, tell, begun, withStart, unlessResident, markCut, markAt, dropAt, accepted, step, answer, after}
+use Rattle.machine.specs.Machine.{Sizes, places, placeOf, isPageSize, sizesOk, firstOf, State, Pair, isStart, region, startOf, notBelow, wordsAt, Lent, Uses}
+use Rattle.machine.specs.Machine.{uses, Call, start, mark, drop, facts, asked, Answer, done, refused, tell, begun, withStart, unlessResident, markCut, markAt}
+use Rattle.machine.specs.Machine.{dropAt, accepted, step, answer, after}
 use Rattle.machine.specs.declared.PageCall.the-variants.{Mark, Drop}
 use Rattle.machine.specs.Answers.{size as size-is, no-size, pageSizeFor}
 use Rattle.machine.specs.Claims.{Sound}
@@ -36,7 +38,8 @@ use Rattle.memory.specs.Memory.{Memory, memory, at, sizesOf, lengths}
 use Rattle.promise.specs.Holds.{Roomy, Holds}
 use Rattle.promise.specs.Did.{Later, Marks, Bounds, Did}
 use Rattle.laws.specs.Models.{checkOf, Refuses, markLengths}
-use Rattle.marking.specs.Models.{cutCount, countIn, withIndex, changeSays, Puts, PutsUnless, MarkIf, DropIf, AsksStart, MarkDone, DropDone, startHead, Starts, StartIf, StartDone}
+use Rattle.marking.specs.Models.{cutCount, countIn, withIndex, changeSays, Puts, PutsUnless, MarkIf, DropIf, AsksStart, MarkDone, DropDone, startHead}
+use Rattle.marking.specs.Models.{Starts, StartIf, StartDone}
 use Rattle.laws.specs.Refusals.{words-none, MayKeep, begins-none, passed-step, early-did, kept-did, checked-did}
 use Rattle.laws.specs.Refusals.{Admitted, admitted, start-admitted, check-size-passes, check-passes}
 use Rattle.laws.specs.Finds.{index-passes, sought-is, start-is}
@@ -102,7 +105,14 @@ module _ (m : State) (k : Memory) (h : Holds m k) (p : ℕ) (low : p < places (m
         counts = h .counts;
         entries = λ a j l.
             let e = h .entries a j l in
-            record { stack-is = e .stack-is; helper-is = e .helper-is; cache-is = e .cache-is; table-is = e .table-is; room = s .keeps a (a + j) (omega arith) (e .room) };
+            record {
+              stack-is = e .stack-is;
+              helper-is = e .helper-is;
+              cache-is = e .cache-is;
+              table-is = e .table-is;
+              room = s .keeps a (a + j)
+                  (omega arith) (e .room);
+            };
         links = h .links;
         pooled = h .pooled;
         ram-is = h .ram-is;
@@ -132,7 +142,8 @@ module _ (m : State) (k : Memory) (h : Holds m k) (i b : ℕ) (low : placeOf (m 
       go true = h .counts a (omega (arith, below-last (isStart m) (suc p) a e .low))
       go false = refl
 
-  cut-is : (found : Found) → Sought (places (m .sizes)) p (k .index) found → cutCount (placeOf (m .sizes) i 0) (k .count) found ≡ length (wayOf m (startOf m p))
+  cut-is : (found : Found) → Sought (places (m .sizes)) p (k .index) found
+      → cutCount (placeOf (m .sizes) i 0) (k .count) found ≡ length (wayOf m (startOf m p))
   cut-is found w = rw (sought-is m k h p low found w, start-is m i b in-pages) (cut-found (lastBelow (isStart m) (suc p)) refl)
 
 -- what the machine does where a region of n resident pages is in the way
@@ -244,13 +255,15 @@ module _ (i b : ℕ) (k : Memory) where
             begins = begins-none (facts (c (lengths k)) .begins) _ k done _ (λ _. keeps .1);
           })
 
-      cut-did : Later (c (lengths k)) (refused 7) → (n : ℕ) (a : Answer) (k′ : Memory) → PutsUnless n v here k a k′ → ((m : State) → Holds m k → Cut m (c (lengths k)) v (placeOf (m .sizes) i b) n) → Did c k a k′
+      cut-did : Later (c (lengths k)) (refused 7) → (n : ℕ) (a : Answer) (k′ : Memory) → PutsUnless n v here k a k′
+          → ((m : State) → Holds m k → Cut m (c (lengths k)) v (placeOf (m .sizes) i b) n) → Did c k a k′
       cut-did full zero a k′ d cut = put-did a k′ d cut
       cut-did full (suc j) a k′ d cut = refuses-did keeps 7 a k′ full d (λ m h. cut-full m (c (lengths k)) v _ j (cut m h))
 
   pub mark-did : (a : Answer) (k′ : Memory) → MarkDone i b k a k′ → Did (mark i b) k a k′
   unfolding accepted
-  mark-did a k′ d = checked-did (mark i b) k _ (page-check k i b Mark (markLengths k) refl) _ a k′ d (λ pass r. go pass (admitted z Mark i b (lengths k) pass) r)
+  mark-did a k′ d =
+      checked-did (mark i b) k _ (page-check k i b Mark (markLengths k) refl) _ a k′ d (λ pass r. go pass (admitted z Mark i b (lengths k) pass) r)
     where
       go : asked z (mark i b (lengths k)) ≡ 0 → Admitted z (uses (mark i b (lengths k))) i b (lengths k)
           → AsksStart here k (λ s. MarkIf s here (placeOf z i 0) k a k′) → Did (mark i b) k a k′
@@ -278,7 +291,8 @@ module _ (i b : ℕ) (k : Memory) where
 
   pub drop-did : (a : Answer) (k′ : Memory) → DropDone i b k a k′ → Did (drop i b) k a k′
   unfolding accepted
-  drop-did a k′ d = checked-did (drop i b) k _ (page-check k i b Drop (markLengths k) refl) _ a k′ d (λ pass r. go pass (admitted z Drop i b (lengths k) pass) r)
+  drop-did a k′ d =
+      checked-did (drop i b) k _ (page-check k i b Drop (markLengths k) refl) _ a k′ d (λ pass r. go pass (admitted z Drop i b (lengths k) pass) r)
     where
       go : asked z (drop i b (lengths k)) ≡ 0 → Admitted z (uses (drop i b (lengths k))) i b (lengths k)
           → AsksStart here k (λ s. DropIf s here k a k′) → Did (drop i b) k a k′
@@ -371,7 +385,8 @@ module _ (s n f shift : ℕ) (k : Memory) where
         ram-is = refl;
       }
 
-  start-then : asked (sizesOf (k .head)) (start given (lengths k)) ≡ 0 → (a : Answer) (k′ : Memory) → Starts (startHead s n f shift) k a k′ → Did (start given) k a k′
+  start-then : asked (sizesOf (k .head)) (start given (lengths k)) ≡ 0 → (a : Answer) (k′ : Memory) → Starts (startHead s n f shift) k a k′
+      → Did (start given) k a k′
   unfolding accepted
   start-then pass a k′ d =
       let w = start-admitted (sizesOf (k .head)) given (lengths k) pass in
@@ -414,7 +429,8 @@ no-page-size : (z₀ z : Sizes) (l : Lent) → isPageSize (z .page) ≡ false �
 unfolding asked sizesOk
 no-page-size z₀ z l e = rw (e, and-false)
 
-pub start-did : (s n f p : ℕ) (k : Memory) (a : Answer) (k′ : Memory) → StartDone s n f p k a k′ → Did (start (record { spaces = s; pages = n; frames = f; page = p })) k a k′
+pub start-did : (s n f p : ℕ) (k : Memory) (a : Answer) (k′ : Memory) → StartDone s n f p k a k′
+    → Did (start (record { spaces = s; pages = n; frames = f; page = p })) k a k′
 unfolding pageSizeFor
 start-did s n f p k a k′ d = go (isPageSize p) refl d
   where

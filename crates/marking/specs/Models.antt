@@ -94,13 +94,15 @@ pub record Starts (h : Head) (k : Memory) (a : Answer) (k′ : Memory) : Type 0 
   pub words : List ℕ
   pub prepared : Prepared (places (sizesOf h)) (k .index) change words
   pub answer-is : a ≡ changeSays change
-  pub after-is : k′ ≡ memory h words (replicate (places (sizesOf h)) 0 ++ drop (places (sizesOf h)) (k .count)) (k .table) (k .helper) (k .stack) (k .cache) (k .link) (k .ram)
+  pub after-is : k′ ≡ memory h words (replicate (places (sizesOf h)) 0 ++ drop (places (sizesOf h)) (k .count)) (k .table) (k .helper) (k .stack) (k .cache)
+      (k .link) (k .ram)
 
 -- for a page size of the nine, and for another
 abbrev pub StartIf : SizeAnswer → ℕ → ℕ → ℕ → Memory → Answer → Memory → Type 0
 StartIf (no-size e) s n f k a k′ = Refuses (refused 1) k a k′
 StartIf (size-is p) s n f k a k′ =
-    (shift : ℕ) × (2 ^ shift ≡ p) × Checked refused (checkOf (startHead s n f shift) (markLengths k) 0 true) (λ a k′. Starts (startHead s n f shift) k a k′) k a k′
+    (shift : ℕ) × (2 ^ shift ≡ p) × Checked refused (checkOf (startHead s n f shift) (markLengths k) 0 true) (λ a k′. Starts (startHead s n f shift) k a k′)
+    k a k′
 
 abbrev pub StartDone : ℕ → ℕ → ℕ → ℕ → Memory → Answer → Memory → Type 0
 StartDone s n f p k a k′ = StartIf (pageSizeFor p) s n f k a k′

@@ -171,7 +171,8 @@ module _ (h : Head) (link pool : List ℕ) (p : Pooled h link pool) where
                   linked = xs;
                   stop = p .stop;
                   many-is = omega arith;
-                  chain = rw (c .0) (chain-kept link f v (at link x) (p .stop) xs (omega (arith, ap (sum (hit f)) tail, sum-append (hit f) xs (unused (h .fresh) (h .frames)))) (c .1));
+                  chain = rw (c .0) (chain-kept link f v (at link x) (p .stop) xs
+                      (omega (arith, ap (sum (hit f)) tail, sum-append (hit f) xs (unused (h .fresh) (h .frames)))) (c .1));
                   fresh-fits = p .fresh-fits;
                   pool-is = tail;
                 },

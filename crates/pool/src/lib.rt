@@ -115,7 +115,8 @@ pub fn put_back(h: Head, link: &mut [u32], newest: u32, oldest: usize, n: u32) -
 // The frames in the pool. Lent nothing but the head.
 pub fn free(head: Head) -> Free
     ensures { λ r. ⌜ ((index count table helper stack cache link ram : List ℕ) →
-        Did (λ _. machine.free) (memory head index count table helper stack cache link ram) (freeSays r) (memory head index count table helper stack cache link ram)) ⌝ }
+        Did (λ _. machine.free) (memory head index count table helper stack cache link ram) (freeSays r)
+        (memory head index count table helper stack cache link ram)) ⌝ }
 {
     if !sizes_ok(head) {
         return Free::Refused(1);

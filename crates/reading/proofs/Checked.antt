@@ -46,11 +46,13 @@ module _ (h : Head) (l : Lengths) (i x n : ℕ) (r : ℕ) (checked : r ≡ check
       record { sizes-ok = span-ready .sizes-ok; space = span-ready .space; ends = span-ends; ram-long = omega (arith, span-ready .lent .ram refl) }
 
 -- the pages of a span
-pub pages-low : (h : Head) (x n : ℕ) → sizesOk (sizesOf h) ≡ true → x + n ≤ spaceBytes (sizesOf h) → x / sizesOf h .page + spanPages (sizesOf h) x n ≤ 68719476736
+pub pages-low : (h : Head) (x n : ℕ) → sizesOk (sizesOf h) ≡ true → x + n ≤ spaceBytes (sizesOf h)
+    → x / sizesOf h .page + spanPages (sizesOf h) x n ≤ 68719476736
 pages-low h x zero ok l = omega (arith, space-small h ok, div-le-self x (sizesOf h .page))
 pages-low h x (suc n) ok l = omega (arith, space-small h ok, div-le-self x (sizesOf h .page), div-le-self (x + n) (sizesOf h .page))
 
 -- the page looked up next lies in the space
-pub next-page : (h : Head) (x n first count page : ℕ) → sizesOk (sizesOf h) ≡ true → x + n ≤ spaceBytes (sizesOf h) → first ≡ x / sizesOf h .page → count ≡ spanPages (sizesOf h) x n
+pub next-page : (h : Head) (x n first count page : ℕ) → sizesOk (sizesOf h) ≡ true → x + n ≤ spaceBytes (sizesOf h) → first ≡ x / sizesOf h .page
+    → count ≡ spanPages (sizesOf h) x n
     → first ≤ page → page < first + count → page < h .pages
 next-page h x n first count page ok ends f c l t = span-page (sizesOf h) x n page ok ends (omega arith) (omega arith)

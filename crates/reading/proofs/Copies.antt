@@ -21,7 +21,8 @@ use Rattle.spans.proofs.Parts.{part-page, part-long, next-long}
 
 -- ---- one part
 
-module _ (k : Memory) (i x n : ℕ) (pre : Part (k .head) i x n (k .ram)) (found : Looked) (looked : Did (look i (x / sizesOf (k .head) .page)) k (lookedSays found) k) where
+module _ (k : Memory) (i x n : ℕ) (pre : Part (k .head) i x n (k .ram)) (found : Looked)
+    (looked : Did (look i (x / sizesOf (k .head) .page)) k (lookedSays found) k) where
   found-is : (m : State) → Holds m k → Found m (pageOfAddress (m .sizes) i x) found
   found-is m h = address-found m k h i x (pre .span .space) (part-page (k .head) i x n (k .ram) pre) found looked
 
@@ -40,7 +41,8 @@ module _ (k : Memory) (i x n : ℕ) (pre : Part (k .head) i x n (k .ram)) (found
     pub part-beyond : k .head .frames ≤ f → (dst : List ℕ) → CopiedOut k i x n dst
     part-beyond beyond dst m h on = absurd (omega (arith, residence-below m k h _ f (residence-is m h), ap (λ (z : Sizes). z .frames) (h .sizes-are)))
 
-    pub part-copied : (from : ℕ) → from ≡ f * sizesOf (k .head) .page + x % sizesOf (k .head) .page → f < k .head .frames → (dst dst′ : List ℕ) → length dst ≡ n
+    pub part-copied : (from : ℕ) → from ≡ f * sizesOf (k .head) .page + x % sizesOf (k .head) .page → f < k .head .frames → (dst dst′ : List ℕ)
+        → length dst ≡ n
         → let src = take (from + n - from) (drop from (k .ram)) in
         dst′ ≡ src ++ drop (length src) dst → CopiedOut k i x n dst′
     part-copied from at below dst dst′ l e m h on =

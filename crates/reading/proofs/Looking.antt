@@ -20,8 +20,10 @@ pub record Looking (k : List ℕ → Memory) (i first end page : ℕ) : Type 0 w
 pub looking-none : (k : List ℕ → Memory) (i first count : ℕ) → Looking k i first (first + count) first
 looking-none k i first count = record { from = omega arith; within = omega arith; resident = λ link. resident-none (k link) i first }
 
-pub looking-more : (k : List ℕ → Memory) (i first end page : ℕ) → Looking k i first end page → page < end → ((link : List ℕ) → (i < k link .head .spaces) × (page < k link .head .pages))
-    → (found : Looked) (f : ℕ) → found ≡ Resident f → ((link : List ℕ) → Did (look i page) (k link) (lookedSays found) (k link)) → Looking k i first end (page + 1)
+pub looking-more : (k : List ℕ → Memory) (i first end page : ℕ) → Looking k i first end page → page < end
+    → ((link : List ℕ) → (i < k link .head .spaces) × (page < k link .head .pages))
+    → (found : Looked) (f : ℕ) → found ≡ Resident f → ((link : List ℕ) → Did (look i page) (k link) (lookedSays found) (k link)) → Looking k i first end
+    (page + 1)
 looking-more k i first end page s l inside found f is looked =
     record {
       from = omega (arith, s .from);

@@ -6,7 +6,8 @@ use native.Mathlib.Nat.{zero-add, add-zero, suc-add, add-suc, sub-self}
 use native.Mathlib.Omega.{arith}
 use lib.ListN.{length}
 use Rattle.machine.specs.declared.PageCall.the-variants.{Look}
-use Rattle.machine.specs.Machine.{Sizes, placeOf, pageOfAddress, spanPages, State, pageOf, look, read, asked, bytes, refused, tell, absence, orElse, firstAbsence, spanAbsence, readIf, accepted}
+use Rattle.machine.specs.Machine.{Sizes, placeOf, pageOfAddress, spanPages, State, pageOf, look, read, asked, bytes, refused, tell, absence, orElse}
+use Rattle.machine.specs.Machine.{firstAbsence, spanAbsence, readIf, accepted}
 use Rattle.machine.specs.Laws.Sizes.{fit, some-bytes}
 use Rattle.machine.specs.Laws.Bytes.{in-pages}
 use Rattle.machine.specs.Answers.{lookedSays}
@@ -79,7 +80,8 @@ module _ (k : Memory) (i a : ℕ) where
   unfolding firstAbsence
   resident-none m h = ap (firstAbsence m (placeOf (m .sizes) i a)) (sub-self a)
 
-  module _ (b : ℕ) (l : a ≤ b) (before : ResidentTo k i a b) (s : i < k .head .spaces) (p : b < k .head .pages) (found : Looked) (looked : Did (look i b) k (lookedSays found) k) where
+  module _ (b : ℕ) (l : a ≤ b) (before : ResidentTo k i a b) (s : i < k .head .spaces) (p : b < k .head .pages) (found : Looked)
+      (looked : Did (look i b) k (lookedSays found) k) where
     -- the page after them, as it was found
     next-is : (m : State) → Holds m k → (n : ℕ) → absence (pageOf m (placeOf (m .sizes) i b)) ≡ n → firstAbsence m (placeOf (m .sizes) i a) (b - a + 1) ≡ n
     next-is m h n e =
@@ -143,19 +145,24 @@ module _ (i x : ℕ) (k : Memory) (buffer : List ℕ) (r : ℕ) (checked : r ≡
           read-refused m zero l = absurd (omega arith)
           read-refused m (suc n) l = refl
 
-      pub read-copied : (b : ℕ) → b ≡ first + count → ResidentTo k i first b → (buffer′ : List ℕ) → CopiedOut k i x (length buffer) buffer′ → ReadDid i x k copied-is.Copied buffer buffer′
+      pub read-copied : (b : ℕ) → b ≡ first + count → ResidentTo k i first b → (buffer′ : List ℕ) → CopiedOut k i x (length buffer) buffer′
+          → ReadDid i x k copied-is.Copied buffer buffer′
       unfolding accepted
       read-copied b last all buffer′ copied =
           record {
             did =
                 told-did (read i x (length buffer)) k (bytes buffer′) passes tt (tt, tt)
                 (λ m h.
-                let none = absence-is m h 0 (subst (λ (c : ℕ). firstAbsence m (placeOf (m .sizes) i first) c ≡ 0) (let s : b - first ≡ count = omega arith in s) (all m h)) in
-                ap (λ (c : ℕ). tell m (readIf m i x (length buffer) c)) none ∙ ap (λ (bs : List ℕ). tell m (bytes bs)) (sym (copied m h (on-resident m h none))));
+                let none = absence-is m h 0
+                (subst (λ (c : ℕ). firstAbsence m (placeOf (m .sizes) i first) c ≡ 0) (let s : b - first ≡ count = omega arith in s) (all m h)) in
+                ap (λ (c : ℕ). tell m (readIf m i x (length buffer) c)) none ∙ ap (λ (bs : List ℕ). tell m (bytes bs))
+                (sym (copied m h (on-resident m h none))));
             kept = λ n e. absurd (let q : _≡_ {A = ℕ} 0 1 = cc in omega arith);
           }
         where
           on-resident : (m : State) → Holds m k → spanAbsence m i x (length buffer) ≡ 0 → OnResident m i x (length buffer)
           on-resident m h none j l =
-              let g = in-pages (m .sizes) i x (length buffer) (x + j) (some-bytes (m .sizes) (fit (m .sizes) (h .sound .sizes-ok))) (omega arith) (omega arith) in
-              ap (λ (q : ℕ). absence (pageOf m q)) (sym (g .2)) ∙ resident-at m (pageOfAddress (m .sizes) i x) (spanPages (m .sizes) x (length buffer)) (g .0) none (g .1)
+              let g = in-pages (m .sizes) i x (length buffer) (x + j) (some-bytes (m .sizes) (fit (m .sizes) (h .sound .sizes-ok))) (omega arith)
+              (omega arith) in
+              ap (λ (q : ℕ). absence (pageOf m q)) (sym (g .2)) ∙ resident-at m (pageOfAddress (m .sizes) i x) (spanPages (m .sizes) x (length buffer))
+              (g .0) none (g .1)

@@ -3,7 +3,8 @@ use mathlib.Core.Path.{_≡_, sym, ap, _∙_, subst}
 use Prim.Native.Nat.{ℕ, _+_, _*_, _/_, _%_, _≤_, _<_}
 use native.Mathlib.Omega.{arith}
 use Rattle.machine.specs.declared.PageCall.the-variants.{Look}
-use Rattle.machine.specs.Machine.{Sizes, pageOfAddress, State, Page, outside, unmapped, mapped, pageOf, look, translate, asked, at, refused, tell, absence, translatePage, accepted}
+use Rattle.machine.specs.Machine.{Sizes, pageOfAddress, State, Page, outside, unmapped, mapped, pageOf, look, translate, asked, at, refused, tell, absence}
+use Rattle.machine.specs.Machine.{translatePage, accepted}
 use Rattle.machine.specs.Answers.{lookedSays}
 use Rattle.machine.specs.declared.Looked.{Looked}
 use Rattle.machine.specs.declared.Looked.the-variants.{Resident}
@@ -49,7 +50,8 @@ module _ (i x : ℕ) (k : Memory) (r : ℕ) (checked : r ≡ checkOf (k .head) (
     translate-refused n e =
         let given = refused-later i _ (lengths k) found n e later in
         told-did (translate i x) k (refused n) passes given (tt, tt)
-        (λ m h. ap (tell m) (translate-absent (m .sizes) x (pageOf m (pageOfAddress (m .sizes) i x)) n (from-four _ _ _ n (omega arith) (omega arith) (omega arith) given) (refused-is m _ found n e (honest m h) .0)))
+        (λ m h. ap (tell m) (translate-absent (m .sizes) x (pageOf m (pageOfAddress (m .sizes) i x)) n
+        (from-four _ _ _ n (omega arith) (omega arith) (omega arith) given) (refused-is m _ found n e (honest m h) .0)))
 
     pub translate-at : (f q : ℕ) → found ≡ Resident f → q ≡ f * sizesOf (k .head) .page + x % sizesOf (k .head) .page → Did (translate i x) k (at q) k
     unfolding accepted

@@ -43,7 +43,8 @@ pub fn translate(
         Did (machine.translate space address)
         (memory head (now (index .entry)) (now (count .entry)) (now (table .entry)) (now (helper .entry)) (now (stack .entry)) (now (cache .entry)) link ram)
         (translatedSays r)
-        (memory head (now (index .entry)) (now (count .entry)) (now (table .entry)) (now (helper .entry)) (now (stack .entry)) (now (cache .entry)) link ram)) ⌝ }
+        (memory head (now (index .entry)) (now (count .entry)) (now (table .entry)) (now (helper .entry)) (now (stack .entry)) (now (cache .entry)) link
+        ram)) ⌝ }
 {
     let lent = Lengths {
         index: index.len(),
@@ -91,10 +92,12 @@ fn read_part(
     cache: &[u32],
     ram: &[u8],
 )
-    requires { ⌜ Part head space x (length (now dst)) (now ram) × Lookable head space (now index) (now count) (now table) (now helper) (now stack) (now cache) ⌝ }
+    requires { ⌜ Part head space x (length (now dst)) (now ram) × Lookable head space (now index) (now count) (now table) (now helper) (now stack)
+        (now cache) ⌝ }
     ensures { λ _. ⌜ ((link : List ℕ) →
         CopiedOut
-        (memory head (now (index .entry)) (now (count .entry)) (now (table .entry)) (now (helper .entry)) (now (stack .entry)) (now (cache .entry)) link (now (ram .entry)))
+        (memory head (now (index .entry)) (now (count .entry)) (now (table .entry)) (now (helper .entry)) (now (stack .entry)) (now (cache .entry)) link
+        (now (ram .entry)))
         space x (length (now (dst .entry))) (now (dst .exit))) ⌝ }
 {
     let page = page_of(head, x);
@@ -134,10 +137,12 @@ fn copy_out(
     cache: &[u32],
     ram: &[u8],
 )
-    requires { ⌜ Span head space address (length (now buffer)) (now ram) × Lookable head space (now index) (now count) (now table) (now helper) (now stack) (now cache) ⌝ }
+    requires { ⌜ Span head space address (length (now buffer)) (now ram) × Lookable head space (now index) (now count) (now table) (now helper) (now stack)
+        (now cache) ⌝ }
     ensures { λ _. ⌜ ((link : List ℕ) →
         CopiedOut
-        (memory head (now (index .entry)) (now (count .entry)) (now (table .entry)) (now (helper .entry)) (now (stack .entry)) (now (cache .entry)) link (now (ram .entry)))
+        (memory head (now (index .entry)) (now (count .entry)) (now (table .entry)) (now (helper .entry)) (now (stack .entry)) (now (cache .entry)) link
+        (now (ram .entry)))
         space address (length (now (buffer .entry))) (now (buffer .exit))) ⌝ }
 {
     let n = buffer.len();
@@ -178,7 +183,8 @@ pub fn read(
 ) -> Copied
     ensures { λ r. ⌜ ((link : List ℕ) →
         ReadDid space address
-        (memory head (now (index .entry)) (now (count .entry)) (now (table .entry)) (now (helper .entry)) (now (stack .entry)) (now (cache .entry)) link (now (ram .entry)))
+        (memory head (now (index .entry)) (now (count .entry)) (now (table .entry)) (now (helper .entry)) (now (stack .entry)) (now (cache .entry)) link
+        (now (ram .entry)))
         r (now (buffer .entry)) (now (buffer .exit))) ⌝ }
 {
     let n = buffer.len();

@@ -32,7 +32,8 @@ module _ (h : Head) (l : Lengths) (i b : ℕ) (y : checking.Ready h l i (ltb b (
   pub page-known : (sizesOk (sizesOf h) ≡ true) × (i < h .spaces) × (b < h .pages)
   page-known = (y .sizes-ok, y .space, ltb-true b (h .pages) (y .is-inside))
 
-  pub tables-known : (t a : ℕ) → t ≡ places (sizesOf h) → a ≡ placeOf (sizesOf h) i b → (a < t) × (t ≤ 262144) × (t ≤ l .count) × (t ≤ l .table) × (t ≤ l .stack)
+  pub tables-known : (t a : ℕ) → t ≡ places (sizesOf h) → a ≡ placeOf (sizesOf h) i b
+      → (a < t) × (t ≤ 262144) × (t ≤ l .count) × (t ≤ l .table) × (t ≤ l .stack)
   tables-known t a et ea =
       rw (et, ea) (
         place-below (sizesOf h) i b (y .space) (page-known .2),
@@ -75,13 +76,15 @@ module _ (h : Head) (count table stack : List ℕ) (t a₀ a : ℕ) where
   gives membership-is.Absent e = absurd (let z : _≡_ {A = ℕ} 0 1 = cc in omega arith)
   gives (membership-is.Refused n) e = absurd (let z : _≡_ {A = ℕ} 0 1 = cc in omega arith)
 
-top-readable : (table stack : List ℕ) (t a n : ℕ) → a + n ≤ t → at stack (a + n - 1) < t → t ≤ 262144 → t ≤ length table → t ≤ length stack → Top table stack a n
+top-readable : (table stack : List ℕ) (t a n : ℕ) → a + n ≤ t → at stack (a + n - 1) < t → t ≤ 262144 → t ≤ length table → t ≤ length stack
+    → Top table stack a n
 top-readable table stack t a zero room top few long-table long-stack = tt
 top-readable table stack t a (suc n) room top few long-table long-stack =
     let last : a + suc n - 1 ≡ a + n = omega arith in
     (omega arith, omega arith, omega (arith, rw last at top))
 
-pub splice-ready : (h : Head) (i b : ℕ) (index count table stack link : List ℕ) (r : Cut) (a : ℕ) → CutOf h i b index count table stack link r → r ≡ cut-is.At a
+pub splice-ready : (h : Head) (i b : ℕ) (index count table stack link : List ℕ) (r : Cut) (a : ℕ) → CutOf h i b index count table stack link r
+    → r ≡ cut-is.At a
     → Spliceable h count table stack link a
 splice-ready h i b index count table stack link r a cut is =
     let k = memory h index count table [] stack [] link [] in
@@ -109,7 +112,8 @@ release-done zero k i b r w a k′ says leaves =
     record { is-set = w .is-set; set-asked = w .set-asked; answer-is = rw (w .is) at says; after-is = rw (w .is) at leaves }
 release-done (suc n) k i b r w a k′ says leaves = record { answer-is = rw w at says; same = rw w at leaves }
 
-module _ (h : Head) (i b : ℕ) (index count table stack link : List ℕ) (r : Cut) (cut : CutOf h i b index count table stack link r) (helper cache ram : List ℕ) where
+module _ (h : Head) (i b : ℕ) (index count table stack link : List ℕ) (r : Cut) (cut : CutOf h i b index count table stack link r)
+    (helper cache ram : List ℕ) where
   abbrev before : Memory
   before = memory h index count table helper stack cache link ram
 

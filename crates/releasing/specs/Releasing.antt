@@ -19,7 +19,8 @@ use Rattle.index.specs.Promise.{Asked}
 use Rattle.index.specs.Words.{IndexOf, bitAt}
 use Rattle.index.specs.Laws.{index-bit}
 use Rattle.machine.specs.declared.PageCall.the-variants.{Release}
-use Rattle.machine.specs.Machine.{Sizes, places, placeOf, State, Pair, isStart, region, framesOf, emptied, releaseAt, release, uses, asked, Answer, pages, refused, step, accepted, answer, after}
+use Rattle.machine.specs.Machine.{Sizes, places, placeOf, State, Pair, isStart, region, framesOf, emptied, releaseAt, release, uses, asked, Answer, pages}
+use Rattle.machine.specs.Machine.{refused, step, accepted, answer, after}
 use Rattle.machine.specs.Claims.{noPair}
 use Rattle.machine.specs.Laws.Sizes.{both}
 use Rattle.machine.specs.Laws.Kept.{start-of-pair, start-below, sound-emptied}
@@ -205,7 +206,8 @@ module _ (m : State) (k : Memory) (H : Holds m k) (a : ℕ) (x : Pair) (xs : Lis
           | yes e ↦ rw (e, now-empty) (record { from = 0; to = 0; chain = refl })
           | no d ↦
               rw (others b d, oldest-is)
-              (linked-kept (k .link) (x .frame) (k .head .first) (newestFirst m b) (omega (arith, oldest-held, one-region m (H .sound) (x .frame) b a d)) (H .links b))
+              (linked-kept (k .link) (x .frame) (k .head .first) (newestFirst m b) (omega (arith, oldest-held, one-region m (H .sound) (x .frame) b a d))
+              (H .links b))
         ];
         pooled = pooled-spliced;
         ram-is = H .ram-is;

@@ -115,7 +115,8 @@ fn splice(
     a: usize,
 ) -> Spliced
     requires { ⌜ Spliceable h (now count) (now table) (now stack) (now link) a ⌝ }
-    ensures { λ r. ⌜ Splices h (now (count .entry)) (now (table .entry)) (now (stack .entry)) (now (link .entry)) a r (now (count .exit)) (now (link .exit)) ⌝ }
+    ensures { λ r. ⌜ Splices h (now (count .entry)) (now (table .entry)) (now (stack .entry)) (now (link .entry)) a r (now (count .exit)) (now (link .exit))
+        ⌝ }
 {
     let n = count[a];
     let first = wide(stack[a]);

@@ -30,6 +30,7 @@ records-numbers (suc n) (a ∷ b ∷ c ∷ ws) h =
     rw e (ap (λ (xs : List ℕ). a ∷ b ∷ c ∷ xs) (records-numbers n ws (omega arith)))
 
 -- how many records a list tells of is all that its numbers say of them
-pub listed-numbers : (a : Listed) (rs : List Region) → length rs ≡ recordsFilled a → encoded (listedSays a (recordsIn (recordsFilled a) [])) ≡ encoded (listedSays a rs)
+pub listed-numbers : (a : Listed) (rs : List Region) → length rs ≡ recordsFilled a
+    → encoded (listedSays a (recordsIn (recordsFilled a) [])) ≡ encoded (listedSays a rs)
 listed-numbers (listed-is.Regions n) rs e = rw (records-length n [], e)
 listed-numbers (listed-is.Refused k) rs e = refl

@@ -42,29 +42,35 @@ module _ (q : Request) (k : Memory) (buffer records : List ℕ) (r : Reply) (k�
       let e = says buffer records in
       record { did = rw e d; buffer-is = rw e (sym bytes-stay); records-are = rw e (sym records-stay) }
 
-  pub done-serves : (a : ended.Done) → Did (requested q buffer records) k (doneSays a) k′ → ((b ws : List ℕ) → replied r b ws ≡ doneSays a) → Serves q k buffer records r k′ buffer records
+  pub done-serves : (a : ended.Done) → Did (requested q buffer records) k (doneSays a) k′ → ((b ws : List ℕ) → replied r b ws ≡ doneSays a)
+      → Serves q k buffer records r k′ buffer records
   done-serves done-is.Ok = kept _ refl refl
   done-serves (done-is.Refused n) = kept _ refl refl
 
-  pub touched-serves : (a : touched.Touched) → Did (requested q buffer records) k (touchedSays a) k′ → ((b ws : List ℕ) → replied r b ws ≡ touchedSays a) → Serves q k buffer records r k′ buffer records
+  pub touched-serves : (a : touched.Touched) → Did (requested q buffer records) k (touchedSays a) k′ → ((b ws : List ℕ) → replied r b ws ≡ touchedSays a)
+      → Serves q k buffer records r k′ buffer records
   touched-serves (touched-is.Old f) = kept _ refl refl
   touched-serves (touched-is.New f w) = kept _ refl refl
   touched-serves (touched-is.Refused n w) = kept _ refl refl
 
-  pub looked-serves : (a : looked.Looked) → Did (requested q buffer records) k (lookedSays a) k′ → ((b ws : List ℕ) → replied r b ws ≡ lookedSays a) → Serves q k buffer records r k′ buffer records
+  pub looked-serves : (a : looked.Looked) → Did (requested q buffer records) k (lookedSays a) k′ → ((b ws : List ℕ) → replied r b ws ≡ lookedSays a)
+      → Serves q k buffer records r k′ buffer records
   looked-serves (looked-is.Resident f) = kept _ refl refl
   looked-serves (looked-is.Absent w) = kept _ refl refl
   looked-serves (looked-is.Refused n w) = kept _ refl refl
 
-  pub released-serves : (a : released.Released) → Did (requested q buffer records) k (releasedSays a) k′ → ((b ws : List ℕ) → replied r b ws ≡ releasedSays a) → Serves q k buffer records r k′ buffer records
+  pub released-serves : (a : released.Released) → Did (requested q buffer records) k (releasedSays a) k′ → ((b ws : List ℕ) → replied r b ws ≡ releasedSays a)
+      → Serves q k buffer records r k′ buffer records
   released-serves (released-is.Pages n) = kept _ refl refl
   released-serves (released-is.Refused n) = kept _ refl refl
 
-  pub free-serves : (a : free.Free) → Did (requested q buffer records) k (freeSays a) k′ → ((b ws : List ℕ) → replied r b ws ≡ freeSays a) → Serves q k buffer records r k′ buffer records
+  pub free-serves : (a : free.Free) → Did (requested q buffer records) k (freeSays a) k′ → ((b ws : List ℕ) → replied r b ws ≡ freeSays a)
+      → Serves q k buffer records r k′ buffer records
   free-serves (free-is.Frames n) = kept _ refl refl
   free-serves (free-is.Refused n) = kept _ refl refl
 
-  pub translated-serves : (a : translated.Translated) → Did (requested q buffer records) k (translatedSays a) k′ → ((b ws : List ℕ) → replied r b ws ≡ translatedSays a) → Serves q k buffer records r k′ buffer records
+  pub translated-serves : (a : translated.Translated) → Did (requested q buffer records) k (translatedSays a) k′
+      → ((b ws : List ℕ) → replied r b ws ≡ translatedSays a) → Serves q k buffer records r k′ buffer records
   translated-serves (translated-is.At p) = kept _ refl refl
   translated-serves (translated-is.Refused n) = kept _ refl refl
 

@@ -7,7 +7,8 @@ use Prim.Native.Nat.{ℕ, zero, suc, _≤_}
 use native.Mathlib.Omega.{arith}
 use lib.ListN.{length, drop}
 use lib.Seq.{take-length, drop-length}
-use Rattle.machine.specs.Machine.{Sizes, sizesOk, State, Lent, Call, start, uses, asked, accepted, Answer, done, refusal, answer, after, Out, begun, unstarted, step}
+use Rattle.machine.specs.Machine.{Sizes, sizesOk, State, Lent, Call, start, uses, asked, accepted, Answer, done, refusal, answer, after, Out, begun}
+use Rattle.machine.specs.Machine.{unstarted, step}
 use Rattle.memory.specs.Memory.{Memory, memory, sizesOf, lengths}
 use Rattle.promise.specs.Holds.{Holds}
 use Rattle.promise.specs.Did.{Did, Exactly, still, Follows, Room}
@@ -70,7 +71,8 @@ whole-step q bytes records k a k₁ room d =
         ram = lends-whole (u .ram) _;
       };
       carries = carries-own q bytes records l;
-      room = λ e. room bytes records (accepted-asks (asked (sizesOf (k .head)) c) c (subst (λ (x : Answer). Exactly (asked (sizesOf (k .head)) c) c x) e (d .asks)));
+      room = λ e. room bytes records
+          (accepted-asks (asked (sizesOf (k .head)) c) c (subst (λ (x : Answer). Exactly (asked (sizesOf (k .head)) c) c x) e (d .asks)));
       part = k₁;
       did = subst (λ (x : Memory). Did (requested q bytes records) x a k₁) (sym (front-whole k)) d;
       after-is = sym (rejoined-whole k k₁);
@@ -97,7 +99,8 @@ no-sizes z e = rw e
 
 module _ (m : State) (k : Memory) (a : Answer) (k₁ : Memory) (u : Unstarted m k) where
   -- a refusal changes nothing
-  refused-alike : (c : Lent → Call) (j : ℕ) → asked (sizesOf (k .head)) (c (lengths k)) ≡ suc j → asked (m .sizes) (c (lengths k)) ≡ suc j → Did c k a k₁ → FollowsMachine m (c (lengths k)) a k₁
+  refused-alike : (c : Lent → Call) (j : ℕ) → asked (sizesOf (k .head)) (c (lengths k)) ≡ suc j → asked (m .sizes) (c (lengths k)) ≡ suc j → Did c k a k₁
+      → FollowsMachine m (c (lengths k)) a k₁
   refused-alike c j e e′ d =
       let r : a ≡ refusal (c (lengths k)) (suc j) = subst (λ (i : ℕ). Exactly i (c (lengths k)) a) e (d .asks) in
       let o = refused-step m (c (lengths k)) j e′ in
@@ -114,7 +117,8 @@ module _ (m : State) (k : Memory) (a : Answer) (k₁ : Memory) (u : Unstarted m 
   refused-first c one d = refused-alike c 0 (one _ (no-sizes _ (u .none))) (one _ (no-sizes _ same-none)) d
 
   -- a start begins with the RAM as it stands
-  first-start : (z : Sizes) → Room (start z (lengths k)) k → asked (sizesOf (k .head)) (start z (lengths k)) ≡ 0 → asked (m .sizes) (start z (lengths k)) ≡ 0 → Did (start z) k a k₁
+  first-start : (z : Sizes) → Room (start z (lengths k)) k → asked (sizesOf (k .head)) (start z (lengths k)) ≡ 0 → asked (m .sizes) (start z (lengths k)) ≡ 0
+      → Did (start z) k a k₁
       → FollowsMachine m (start z (lengths k)) a k₁
   unfolding accepted
   first-start z room e e′ d =
@@ -122,10 +126,13 @@ module _ (m : State) (k : Memory) (a : Answer) (k₁ : Memory) (u : Unstarted m 
       let b = d .begins e in
       record {
         answer-is = b .0 ∙ sym (ap (λ (x : Out). x .answer) o);
-        stands = subst (λ (x : Out). Stands (x .after) k₁) (sym o) (inl (subst (λ (ram : List ℕ). Holds (begun z ram) k₁) (sym (ap (λ (x : State). x .ram) (u .state-is))) (b .1 room)));
+        stands =
+            subst (λ (x : Out). Stands (x .after) k₁) (sym o)
+            (inl (subst (λ (ram : List ℕ). Holds (begun z ram) k₁) (sym (ap (λ (x : State). x .ram) (u .state-is))) (b .1 room)));
       }
 
-  start-served : (z : Sizes) → (asked (sizesOf (k .head)) (start z (lengths k)) ≡ 0 → Room (start z (lengths k)) k) → Did (start z) k a k₁ → FollowsMachine m (start z (lengths k)) a k₁
+  start-served : (z : Sizes) → (asked (sizesOf (k .head)) (start z (lengths k)) ≡ 0 → Room (start z (lengths k)) k) → Did (start z) k a k₁
+      → FollowsMachine m (start z (lengths k)) a k₁
   unfolding asked
   start-served z room d = go (asked (sizesOf (k .head)) (start z (lengths k))) refl
     where
@@ -133,7 +140,8 @@ module _ (m : State) (k : Memory) (a : Answer) (k₁ : Memory) (u : Unstarted m 
       go zero e = first-start z (room e) e e d
       go (suc j) e = refused-alike (start z) j e e d
 
-  unstarted-served : (q : Request) (bytes records : List ℕ) → RoomFor q k → Did (requested q bytes records) k a k₁ → FollowsMachine m (requested q bytes records (lengths k)) a k₁
+  unstarted-served : (q : Request) (bytes records : List ℕ) → RoomFor q k → Did (requested q bytes records) k a k₁
+      → FollowsMachine m (requested q bytes records (lengths k)) a k₁
   unfolding asked
   unstarted-served (Start s n f p) bytes records room d = start-served (record { spaces = s; pages = n; frames = f; page = p }) (room bytes records) d
   unstarted-served (Page p i b) bytes records room d = refused-first _ (λ z e. rw e) d

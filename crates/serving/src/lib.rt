@@ -42,10 +42,12 @@ fn serve_page(
 ) -> Served
     ensures { λ r. ⌜ ((buffer records ram : List ℕ) →
         Serves (Page call space page)
-        (memory head (now (index .entry)) (now (count .entry)) (now (table .entry)) (now (helper .entry)) (now (stack .entry)) (now (cache .entry)) (now (link .entry)) ram)
+        (memory head (now (index .entry)) (now (count .entry)) (now (table .entry)) (now (helper .entry)) (now (stack .entry)) (now (cache .entry))
+        (now (link .entry)) ram)
         buffer records
         (r .reply)
-        (memory (r .head) (now (index .exit)) (now (count .exit)) (now (table .exit)) (now (helper .exit)) (now (stack .exit)) (now (cache .exit)) (now (link .exit)) ram)
+        (memory (r .head) (now (index .exit)) (now (count .exit)) (now (table .exit)) (now (helper .exit)) (now (stack .exit)) (now (cache .exit))
+        (now (link .exit)) ram)
         buffer records) ⌝ }
 {
     match call {
@@ -119,10 +121,12 @@ pub fn serve(
 ) -> Served
     ensures { λ r. ⌜
         Serves request
-        (memory head (now (index .entry)) (now (count .entry)) (now (table .entry)) (now (helper .entry)) (now (stack .entry)) (now (cache .entry)) (now (link .entry)) (now (ram .entry)))
+        (memory head (now (index .entry)) (now (count .entry)) (now (table .entry)) (now (helper .entry)) (now (stack .entry)) (now (cache .entry))
+        (now (link .entry)) (now (ram .entry)))
         (now (buffer .entry)) (now (records .entry))
         (r .reply)
-        (memory (r .head) (now (index .exit)) (now (count .exit)) (now (table .exit)) (now (helper .exit)) (now (stack .exit)) (now (cache .exit)) (now (link .exit)) (now (ram .exit)))
+        (memory (r .head) (now (index .exit)) (now (count .exit)) (now (table .exit)) (now (helper .exit)) (now (stack .exit)) (now (cache .exit))
+        (now (link .exit)) (now (ram .exit)))
         (now (buffer .exit)) (now (records .exit)) ⌝ }
 {
     match request {

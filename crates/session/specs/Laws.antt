@@ -49,7 +49,8 @@ within a b c d e = let t = both (leb a b) (leb c d) (not-false _ e) in (leb-true
     not-false true e = refl
     not-false false e = absurd (let z : _≡_ {A = ℕ} 0 1 = cc in omega arith)
 
-start-roomy : (k : Memory) (z : Sizes) → Board k → not (leb (places z) 1024 && leb (z .frames * z .page) 32768) ≡ false → asked (sizesOf (k .head)) (start z (lengths k)) ≡ 0 → Roomy z k
+start-roomy : (k : Memory) (z : Sizes) → Board k → not (leb (places z) 1024 && leb (z .frames * z .page) 32768) ≡ false
+    → asked (sizesOf (k .head)) (start z (lengths k)) ≡ 0 → Roomy z k
 unfolding asked
 start-roomy k z b limits e =
     let ok = both (sizesOk z) _ (passed _ true true e .first) .0 in
@@ -87,19 +88,23 @@ bytes-length (suc n) [] e = absurd (omega arith)
 bytes-length (suc n) (a ∷ []) e = absurd (omega arith)
 bytes-length (suc n) (a ∷ b ∷ cs) e = ap suc (bytes-length n cs (omega arith))
 
-filled-bytes : (line : List ℕ) (n : ℕ) (buffer buffer′ : List ℕ) → 2 * n ≤ length line → n ≤ length buffer → allHex (hexOf line n) ≡ true → Unhexed line n buffer buffer′
+filled-bytes : (line : List ℕ) (n : ℕ) (buffer buffer′ : List ℕ) → 2 * n ≤ length line → n ≤ length buffer → allHex (hexOf line n) ≡ true
+    → Unhexed line n buffer buffer′
     → take n buffer′ ≡ bytesIn (hexOf line n)
 filled-bytes line n buffer buffer′ long fits hex u =
-    rw (u long fits hex) (take-at (bytesIn (hexOf line n)) (drop n buffer) n (bytes-length n (hexOf line n) (omega (arith, length-drop (length line - 2 * n) line))))
+    rw (u long fits hex)
+    (take-at (bytesIn (hexOf line n)) (drop n buffer) n (bytes-length n (hexOf line n) (omega (arith, length-drop (length line - 2 * n) line))))
 
-module _ (line : List ℕ) (n : ℕ) (buffer buffer′ records : List ℕ) (l : Lent) (fits : n ≤ length buffer) (same : length buffer′ ≡ length buffer) (numbers : length records ≡ 3072) where
+module _ (line : List ℕ) (n : ℕ) (buffer buffer′ records : List ℕ) (l : Lent) (fits : n ≤ length buffer) (same : length buffer′ ≡ length buffer)
+    (numbers : length records ≡ 3072) where
   pub line-call : (q : Request) → parsed line ≡ Call q n → Fills q line n buffer buffer′ → requested q (take n buffer′) records l ≡ lineCall q n line l
   line-call (Start s p f b) e fill = refl
   line-call (Page p i b) e fill = refl
   line-call Free e fill = refl
   line-call (Translate i x) e fill = refl
   line-call (Read i x) e fill = ap (λ (k : ℕ). read i x k l) (length-take-le n buffer′ (omega arith))
-  line-call (Write i x) e fill = let h = write-hex line i x n e in ap (λ (vs : List ℕ). write i x vs l) (filled-bytes line n buffer buffer′ (h .0) fits (h .1) fill)
+  line-call (Write i x) e fill =
+      let h = write-hex line i x n e in ap (λ (vs : List ℕ). write i x vs l) (filled-bytes line n buffer buffer′ (h .0) fits (h .1) fill)
   line-call (Listing i) e fill = ap (λ (k : ℕ). list i (k / 3) l) numbers
 
 -- ---- the answer
@@ -116,24 +121,35 @@ shown-fits (reply-is.Frames n) bytes records records′ e = omega arith
 shown-fits (reply-is.At p) bytes records records′ e = omega arith
 shown-fits reply-is.Bytes bytes records records′ e = omega arith
 shown-fits (reply-is.Regions n) bytes records records′ e =
-    omega (arith, ap length e, length-append (regionNumbers (recordsIn n records′)) (drop (3 * length (recordsIn n records′)) records), numbers-length (recordsIn n records′), records-length n records′)
+    omega (
+      arith,
+      ap length e,
+      length-append (regionNumbers (recordsIn n records′)) (drop (3 * length (recordsIn n records′)) records),
+      numbers-length
+          (recordsIn n records′),
+      records-length n records′,
+    )
 shown-fits (reply-is.Refused k) bytes records records′ e = omega arith
 shown-fits (reply-is.RefusedAfter k w) bytes records records′ e = omega arith
 
 module _ (line : List ℕ) (k : Memory) (at : ℕ) (out buffer records : List ℕ) (end : ℕ) (k′ : Memory) (out′ : List ℕ) where
   -- the machine's answer is known
-  answers-as : (m : State) (x : LineAnswer) → answered line (lengths k) m ≡ x → Wrote at out (x .answer-text) end out′ → Stands (x .after) k′ → Answers line m k at out end k′ out′
+  answers-as : (m : State) (x : LineAnswer) → answered line (lengths k) m ≡ x → Wrote at out (x .answer-text) end out′ → Stands (x .after) k′
+      → Answers line m k at out end k′ out′
   answers-as m x e wrote stands = record { wrote = rw e wrote; stands = rw e stands }
 
-  called : (m : State) (q : Request) (n : ℕ) (over : Bool) → parsed line ≡ Call q n → beyond q ≡ over → answered line (lengths k) m ≡ answeredCall q n line (lengths k) m over
+  called : (m : State) (q : Request) (n : ℕ) (over : Bool) → parsed line ≡ Call q n → beyond q ≡ over
+      → answered line (lengths k) m ≡ answeredCall q n line (lengths k) m over
   called m q n over e b = ap (λ (x : Line). answeredAs x line (lengths k) m) e ∙ ap (answeredCall q n line (lengths k) m) b
 
   pub bad-answered : parsed line ≡ Bad → k′ ≡ k → (at + 8 ≤ length out → Wrote at out badLine end out′) → AnswersLine line k at out buffer records end k′ out′
   bad-answered e same wrote m S d = answers-as m _ (ap (λ (x : Line). answeredAs x line (lengths k) m) e) (wrote (omega (arith, d .room))) (rw same S)
 
-  pub beyond-answered : (q : Request) (n : ℕ) → parsed line ≡ Call q n → beyond q ≡ true → k′ ≡ k → Says at out (reply-is.Refused 1) [] [] end out′ → AnswersLine line k at out buffer records end k′ out′
+  pub beyond-answered : (q : Request) (n : ℕ) → parsed line ≡ Call q n → beyond q ≡ true → k′ ≡ k → Says at out (reply-is.Refused 1) [] [] end out′
+      → AnswersLine line k at out buffer records end k′ out′
   beyond-answered q n e over same says m S d =
-      answers-as m _ (called m q n true e over) (says (record { room = d .room; few-bytes = omega arith; few-records = omega arith; records-are = omega arith })) (rw same S)
+      answers-as m _ (called m q n true e over)
+      (says (record { room = d .room; few-bytes = omega arith; few-records = omega arith; records-are = omega arith })) (rw same S)
 
   -- no line has more bytes than the buffer
   pub short-answered : (q : Request) (n : ℕ) → parsed line ≡ Call q n → length buffer < n → AnswersLine line k at out buffer records end k′ out′
@@ -155,4 +171,5 @@ module _ (line : List ℕ) (k : Memory) (at : ℕ) (out buffer records : List �
         few-records = omega (arith, d .numbers, a .records-long);
         records-are = shown-fits (a .reply) (a .bytes′) records (a .records′) (s .records-are);
       } in
-      answers-as m _ (called m q n false e under) (subst (λ (x : Answer). Wrote at out (text x) end out′) told (a .says room)) (subst (λ (x : MachineCall). Stands (after m x) k′) c (f .stands))
+      answers-as m _ (called m q n false e under) (subst (λ (x : Answer). Wrote at out (text x) end out′) told (a .says room))
+      (subst (λ (x : MachineCall). Stands (after m x) k′) c (f .stands))

@@ -38,9 +38,11 @@ fn answer_call(
 ) -> Answered
     ensures { λ r. ⌜
         CallAnswered request
-        (memory head (now (index .entry)) (now (count .entry)) (now (table .entry)) (now (helper .entry)) (now (stack .entry)) (now (cache .entry)) (now (link .entry)) (now (ram .entry)))
+        (memory head (now (index .entry)) (now (count .entry)) (now (table .entry)) (now (helper .entry)) (now (stack .entry)) (now (cache .entry))
+        (now (link .entry)) (now (ram .entry)))
         (now (bytes .entry)) (now (records .entry)) at (now (out .entry)) (r .end)
-        (memory (r .head) (now (index .exit)) (now (count .exit)) (now (table .exit)) (now (helper .exit)) (now (stack .exit)) (now (cache .exit)) (now (link .exit)) (now (ram .exit)))
+        (memory (r .head) (now (index .exit)) (now (count .exit)) (now (table .exit)) (now (helper .exit)) (now (stack .exit)) (now (cache .exit))
+        (now (link .exit)) (now (ram .exit)))
         (now (out .exit)) ⌝ }
 {
     let served = serve(
@@ -82,10 +84,12 @@ pub fn answer_line(
 ) -> Answered
     ensures { λ r. ⌜
         AnswersLine (now (line .entry))
-        (memory head (now (index .entry)) (now (count .entry)) (now (table .entry)) (now (helper .entry)) (now (stack .entry)) (now (cache .entry)) (now (link .entry)) (now (ram .entry)))
+        (memory head (now (index .entry)) (now (count .entry)) (now (table .entry)) (now (helper .entry)) (now (stack .entry)) (now (cache .entry))
+        (now (link .entry)) (now (ram .entry)))
         at (now (out .entry)) (now (buffer .entry)) (now (records .entry))
         (r .end)
-        (memory (r .head) (now (index .exit)) (now (count .exit)) (now (table .exit)) (now (helper .exit)) (now (stack .exit)) (now (cache .exit)) (now (link .exit)) (now (ram .exit)))
+        (memory (r .head) (now (index .exit)) (now (count .exit)) (now (table .exit)) (now (helper .exit)) (now (stack .exit)) (now (cache .exit))
+        (now (link .exit)) (now (ram .exit)))
         (now (out .exit)) ⌝ }
 {
     let said = parse(line);

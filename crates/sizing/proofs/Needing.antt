@@ -28,7 +28,8 @@ module _ (s n f bytes : ℕ) (made : MadeSize) (of : pageSizeSays made ≡ pageS
   no-page-size k e = go (isPageSize bytes) (rw e at of)
     where
       go : (b : Bool) → no-size k ≡ cond b (sized bytes) (no-size 1)
-          → 1 ∷ 0 ∷ 0 ∷ 0 ∷ 0 ∷ [] ≡ cond (between 1 64 s && between 1 262144 n && leb (places (sizes s n f bytes)) 262144 && between 1 65536 f && b) (0 ∷ size (places (sizes s n f bytes)) ∷ places (sizes s n f bytes) ∷ f ∷ f * bytes ∷ []) (1 ∷ 0 ∷ 0 ∷ 0 ∷ 0 ∷ [])
+          → 1 ∷ 0 ∷ 0 ∷ 0 ∷ 0 ∷ [] ≡ cond (between 1 64 s && between 1 262144 n && leb (places (sizes s n f bytes)) 262144 && between 1 65536 f && b)
+          (0 ∷ size (places (sizes s n f bytes)) ∷ places (sizes s n f bytes) ∷ f ∷ f * bytes ∷ []) (1 ∷ 0 ∷ 0 ∷ 0 ∷ 0 ∷ [])
       go true q = absurd (let z : _≡_ {A = ℕ} 0 1 = cc in omega arith)
       go false q = rw (and-false (between 1 64 s) (between 1 262144 n) (leb (places (sizes s n f bytes)) 262144) (between 1 65536 f))
 

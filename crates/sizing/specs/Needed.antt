@@ -27,7 +27,8 @@ needed-is-roomy z k n e accepted i c t h s a l r = go (sizesOk z) e
   where
     go : (b : Bool) → numbersOf n ≡ cond b (0 ∷ size (places z) ∷ places z ∷ z .frames ∷ z .frames * z .page ∷ []) (1 ∷ 0 ∷ 0 ∷ 0 ∷ 0 ∷ []) → Roomy z k
     go true q =
-        let nth : (j : ℕ) → getD (numbersOf n) j 0 ≡ getD (0 ∷ size (places z) ∷ places z ∷ z .frames ∷ z .frames * z .page ∷ []) j 0 = λ j. ap (λ (ws : List ℕ). getD ws j 0) q in
+        let nth : (j : ℕ) → getD (numbersOf n) j 0 ≡ getD (0 ∷ size (places z) ∷ places z ∷ z .frames ∷ z .frames * z .page ∷ []) j 0 = λ j. ap
+        (λ (ws : List ℕ). getD ws j 0) q in
         record {
           index = omega (arith, nth 1);
           count = omega (arith, nth 2);

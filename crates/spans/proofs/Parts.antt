@@ -48,7 +48,8 @@ pub next-long : (bytes : List ℕ) (a b : ℕ) → b ≤ length bytes → length
 next-long bytes a b l = length-take-le (b - a) (drop a bytes) (rw length-drop (omega arith))
 
 -- the next s of n bytes, of which `done` are copied
-module _ (h : Head) (i x n : ℕ) (ram : List ℕ) (pre : Span h i x n ram) (done s : ℕ) (low : done < n) (is : s ≡ min (sizesOf h .page - (x + done) % sizesOf h .page) (n - done)) where
+module _ (h : Head) (i x n : ℕ) (ram : List ℕ) (pre : Span h i x n ram) (done s : ℕ) (low : done < n)
+    (is : s ≡ min (sizesOf h .page - (x + done) % sizesOf h .page) (n - done)) where
   pub next-some : 0 < s
   next-some = omega (arith, mod-lt (x + done) (some-page h (pre .sizes-ok)))
 

@@ -36,7 +36,8 @@ module _ (h : Head) (ok : sizesOk (sizesOf h) ≡ true) where
   pub offset-low : (x o : ℕ) → o ≡ x % sizeOf (h .page) → o < sizesOf h .page
   offset-low x o e = omega (arith, offset-exact x o e, mod-lt x some-page)
 
-  pub part-left : (x o left : ℕ) → o ≡ x % sizeOf (h .page) → left < 1 * 2 ^ (h .page .shift) % 2 ^ 64 - o → left ≡ min (sizesOf h .page - x % sizesOf h .page) left
+  pub part-left : (x o left : ℕ) → o ≡ x % sizeOf (h .page) → left < 1 * 2 ^ (h .page .shift) % 2 ^ 64 - o
+      → left ≡ min (sizesOf h .page - x % sizesOf h .page) left
   part-left x o left e l = omega (arith, page-shifted, offset-exact x o e)
 
   pub part-whole : (x o left : ℕ) → o ≡ x % sizeOf (h .page) → 1 * 2 ^ (h .page .shift) % 2 ^ 64 - o ≤ left
@@ -49,7 +50,8 @@ module _ (h : Head) (ok : sizesOk (sizesOf h) ≡ true) where
   space-small =
       omega (arith, mul-le-mul-right (sizesOf h .page) (fit (sizesOf h) ok .few-pages), mul-le-mul-left 262144 page-small)
 
-  pub pages-are : (x n a b : ℕ) → (n ≡ 0 → ⊥) → a ≡ (x + (n - 1)) / sizesOf h .page → b ≡ x / sizesOf h .page → (b ≤ a) × (a - b + 1 ≡ spanPages (sizesOf h) x n)
+  pub pages-are : (x n a b : ℕ) → (n ≡ 0 → ⊥) → a ≡ (x + (n - 1)) / sizesOf h .page → b ≡ x / sizesOf h .page
+      → (b ≤ a) × (a - b + 1 ≡ spanPages (sizesOf h) x n)
   pages-are x zero a b d ea eb = absurd (d refl)
   pages-are x (suc n) a b d ea eb =
       let m : suc n - 1 ≡ n = omega arith in

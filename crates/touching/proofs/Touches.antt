@@ -45,7 +45,8 @@ module _ (h : Head) (i b : ℕ) (index count table helper stack cache link : Lis
       }
 
   pub touch-refused : (no ≡ 0 → ⊥) → (ram : List ℕ) → let k = memory h index count table helper stack cache link ram in Did (touch i b) k (refusedAfter no 0) k
-  touch-refused some ram = let k = memory h index count table helper stack cache link ram in early-refused (touch i b) k no (checked ∙ page-check k i b Touch (touchLengths k) refl) some
+  touch-refused some ram = let k = memory h index count table helper stack cache link ram in early-refused (touch i b) k no
+      (checked ∙ page-check k i b Touch (touchLengths k) refl) some
 
 -- a touch changes neither sizes nor lengths
 pub still-touchable : {z : Sizes} {x c t e s a l : ℕ} {k k′ : Memory} → Tables z x c t e s a l k k′ → {i b : ℕ}
@@ -68,7 +69,8 @@ module _ (h : Head) (i b : ℕ) (index count table helper stack cache : List ℕ
       go (sight-is.Unmapped a c) seen =
           let z = sizesOf h in
           rw e (
-            seen-inside (memory h index count table helper stack cache [] []) i b (y .sizes-ok) (y .index-long) (place-below z i b (y .space) (y .page)) a c seen,
+            seen-inside (memory h index count table helper stack cache [] []) i b (y .sizes-ok) (y .index-long) (place-below z i b (y .space) (y .page)) a c
+                seen,
             fit z (y .sizes-ok) .few-places,
             y .count-long,
             y .stack-long,
@@ -105,7 +107,8 @@ takeable : (h : Head) (link : List ℕ) (n : ℕ) → takenFrom link h n .frame 
 takeable h link zero l few long = omega arith
 takeable h link (suc n) l few long = omega arith
 
-top-readable : (table stack : List ℕ) (t a n : ℕ) → topOk stack t a n ≡ true → a + n < t → t ≤ 262144 → t ≤ length stack → t ≤ length table → Top table stack a n
+top-readable : (table stack : List ℕ) (t a n : ℕ) → topOk stack t a n ≡ true → a + n < t → t ≤ 262144 → t ≤ length stack → t ≤ length table
+    → Top table stack a n
 top-readable table stack t a zero ok l few long-stack long-table = tt
 top-readable table stack t a (suc n) ok l few long-stack long-table = (omega arith, omega arith, omega (arith, ltb-true (at stack (a + n)) t ok))
 
@@ -120,7 +123,8 @@ module _ (h : Head) (i b : ℕ) (index count table helper stack cache link : Lis
   passes : (ram : List ℕ) → asked (sizesOf h) (touch i b (lengths (memory h index count table helper stack cache link ram))) ≡ 0
   passes ram =
       let g = y .ready in
-      page-passes (sizesOf h) Touch i b _ (g .sizes-ok) (g .space) (g .page) (ready-long h i b index count table helper stack cache g link ram _ (λ _. y .link-long) not-lent)
+      page-passes (sizesOf h) Touch i b _ (g .sizes-ok) (g .space) (g .page)
+      (ready-long h i b index count table helper stack cache g link ram _ (λ _. y .link-long) not-lent)
 
   pub touch-mappable : (a c : ℕ) → r ≡ plan-is.New a c → (p : ℕ) → p ≡ placeOf (sizesOf h) i b → Mappable h count table helper stack cache link a p
   touch-mappable a c is p ep =
@@ -136,7 +140,9 @@ module _ (h : Head) (i b : ℕ) (index count table helper stack cache link : Lis
       (record {
         takeable = takeable h link (h .many) (g .frame) (f .few-frames) long-link;
         frame = omega (arith, g .frame, long-link);
-        top = top-readable table stack (places z) a (at count a) (fit-top h count stack (places z) a (m .fits)) (g .top) (f .few-places) (known .stack-long) (known .table-long);
+        top =
+            top-readable table stack (places z) a (at count a) (fit-top h count stack (places z) a (m .fits)) (g .top) (f .few-places) (known .stack-long)
+            (known .table-long);
         next = omega (arith, g .top, known .stack-long);
         few = omega (arith, g .top, f .few-places);
         small = omega (arith, g .place, f .few-places);
@@ -169,8 +175,10 @@ module _ (h : Head) (i b : ℕ) (index count table helper stack cache link : Lis
         rw (m .count-is, m .table-is, m .helper-is, m .stack-is, m .cache-is, m .link-is, m .first, place) (touched _ _ (rw is (refl, refl)))
 
 -- the short way: a resident page answers its frame
-pub did-resident : (h : Head) (i b : ℕ) (index count table helper stack cache link : List ℕ) → Touchable h i b index count table helper stack cache link → (f : ℕ)
+pub did-resident : (h : Head) (i b : ℕ) (index count table helper stack cache link : List ℕ) → Touchable h i b index count table helper stack cache link
+    → (f : ℕ)
     → f ≡ frameOf h i b count table helper stack cache → f < h .frames
     → (ram : List ℕ) → let k = memory h index count table helper stack cache link ram in Did (touch i b) k (old f) k
 did-resident h i b index count table helper stack cache link y f is below ram =
-    did-old h i b index count table helper stack cache link y (plan-is.Old f) (record { sight = sight-is.Mapped f; seen = frame-seen h i b index count table helper stack cache is below; is = refl }) ram f refl
+    did-old h i b index count table helper stack cache link y (plan-is.Old f)
+    (record { sight = sight-is.Mapped f; seen = frame-seen h i b index count table helper stack cache is below; is = refl }) ram f refl

@@ -70,7 +70,8 @@ module _ (m : State) (k : Memory) (h : Holds m k) (p a : ℕ) (low : p < places 
   other-place : (b j : ℕ) → j < length (region m b) → getD (region m b) j noPair .place ≢ p
   other-place b j l e =
       let same : b ≡ a = Option·some-injective b a (sym (h .sound .own b j l) ∙ ap (startOf m) e ∙ u .region-is) in
-      not-in p (region m a) (u .none-in) j (subst (λ (c : ℕ). j < length (region m c)) same l) (ap (λ (c : ℕ). getD (region m c) j noPair .place) (sym same) ∙ e)
+      not-in p (region m a) (u .none-in) j (subst (λ (c : ℕ). j < length (region m c)) same l)
+      (ap (λ (c : ℕ). getD (region m c) j noPair .place) (sym same) ∙ e)
 
   other-top : (b j : ℕ) → j < length (region m b) → b + j ≢ a + at (k .count) a
   other-top b j l e =

@@ -16,7 +16,8 @@ use Rattle.index.specs.declared.Found.the-variants as found-is
 use Rattle.index.specs.Promise.{Bounded}
 use Rattle.places.specs.Places.{size}
 use Rattle.machine.specs.declared.PageCall.the-variants.{Touch}
-use Rattle.machine.specs.Machine.{Sizes, places, sizesOk, placeOf, State, Lent, wordsAt, Page, unmapped, pageOf, touch, asked, Answer, refusedAfter, Out, touchNew, touchPage, touchAt, accepted, answer, after}
+use Rattle.machine.specs.Machine.{Sizes, places, sizesOk, placeOf, State, Lent, wordsAt, Page, unmapped, pageOf, touch, asked, Answer, refusedAfter, Out}
+use Rattle.machine.specs.Machine.{touchNew, touchPage, touchAt, accepted, answer, after}
 use Rattle.machine.specs.Laws.Sizes.{both}
 use Rattle.memory.specs.Memory.{Memory, at, sizesOf, lengths}
 use Rattle.memory.specs.declared.Head.{Head}
@@ -55,7 +56,8 @@ found-low t lo p a c (found-is.Start q w) l e = go (leb lo q) e
 found-low t lo p a c (found-is.Missing w) l e = absurd (let z : _≡_ {A = ℕ} 0 1 = cc in omega arith)
 found-low t lo p a c (found-is.Refused n w) l e = absurd l
 
-seen-low : (f t lo p : ℕ) (ws table : List ℕ) (b : Bool) (a c : ℕ) → index.check (length ws) t p ≡ 0 → SeenIf b f t lo p ws table (sight-is.Unmapped a c) → a ≤ p
+seen-low : (f t lo p : ℕ) (ws table : List ℕ) (b : Bool) (a c : ℕ) → index.check (length ws) t p ≡ 0 → SeenIf b f t lo p ws table (sight-is.Unmapped a c)
+    → a ≤ p
 seen-low f t lo p ws table true a c e seen = go (ltb (at table p) f) seen
   where
     go : (b : Bool) → sight-is.Unmapped a c ≡ sightMapped (at table p) b → a ≤ p
@@ -71,17 +73,20 @@ taken-low link h zero some-left e = leb-false (h .frames) (h .fresh) some-left
 taken-low link h (suc n) some-left e = ltb-true (h .first) (h .frames) e
 
 -- a start that is seen is a place
-pub seen-inside : (k : Memory) (i b : ℕ) → (let z = sizesOf (k .head) in (sizesOk z ≡ true) → size (places z) ≤ length (k .index) → placeOf z i b < places z → (a c : ℕ)
+pub seen-inside : (k : Memory) (i b : ℕ)
+    → (let z = sizesOf (k .head) in (sizesOk z ≡ true) → size (places z) ≤ length (k .index) → placeOf z i b < places z → (a c : ℕ)
     → SeenAt k i b (sight-is.Unmapped a c) → a < places z)
 unfolding Seen
 seen-inside k i b ok long place a c seen =
     let z = sizesOf (k .head) in
     let p = placeOf z i b in
     let room = check-passes z ok (length (k .index)) long p place in
-    let low = seen-low (z .frames) (places z) (placeOf z i 0) p (k .index) (k .table) (residentOk (k .count) (k .helper) (k .stack) (k .cache) (places z) p) a c room seen in
+    let low = seen-low (z .frames) (places z) (placeOf z i 0) p (k .index) (k .table) (residentOk (k .count) (k .helper) (k .stack) (k .cache) (places z) p)
+    a c room seen in
     omega arith
 
-pub new-inside : (k : Memory) (i b : ℕ) → asked (sizesOf (k .head)) (touch i b (lengths k)) ≡ 0 → (a c : ℕ) → SeenAt k i b (sight-is.Unmapped a c) → emptyPool (k .head) ≡ false
+pub new-inside : (k : Memory) (i b : ℕ) → asked (sizesOf (k .head)) (touch i b (lengths k)) ≡ 0 → (a c : ℕ) → SeenAt k i b (sight-is.Unmapped a c)
+    → emptyPool (k .head) ≡ false
     → fitOk (k .head) (k .count) (k .stack) (places (sizesOf (k .head))) a ≡ true → Inside k (placeOf (sizesOf (k .head)) i b) a
 unfolding emptyPool fitOk
 new-inside k i b passes a c seen some-left fits =
@@ -171,7 +176,8 @@ module _ (m : State) (k : Memory) (h : Holds m k) (p : ℕ) (low : p < places (m
   touch-like (sight-is.Mapped f) (a, e) = rw e (refl, h)
   touch-like (sight-is.Outside c) (e, w) = rw e (ap (refusedAfter 4) w, h)
   touch-like (sight-is.Unmapped a c) (e, w) =
-      subst (λ (g : Page). Like (planIf (emptyPool (k .head)) (fitOk (k .head) (k .count) (k .stack) (places (m .sizes)) a) a c) (touchPage m p (wordsAt m p) g)) (sym e)
+      subst (λ (g : Page). Like (planIf (emptyPool (k .head)) (fitOk (k .head) (k .count) (k .stack) (places (m .sizes)) a) a c)
+      (touchPage m p (wordsAt m p) g)) (sym e)
       (new-like a c e w (emptyPool (k .head)) (fitOk (k .head) (k .count) (k .stack) (places (m .sizes)) a) refl refl (m .pool) refl)
   touch-like sight-is.Broken bad = absurd bad
 
@@ -187,7 +193,8 @@ touch-honest i b k passes s seen m h =
     let o = passed-step m c e in
     let like = touch-like m k h p (g .place) s (seen-honest m k h i b (g .space) (g .page) s seen) in
     let same =
-    subst (λ (z : Sizes). let x = planFor (k .head) (k .count) (k .stack) (places z) s in (planSays x k ≡ touchAt m p .answer) × Holds (touchAt m p .after) (planLeaves x k (placeOf z i b)))
+    subst (λ (z : Sizes). let x = planFor (k .head) (k .count) (k .stack) (places z) s in (planSays x k ≡ touchAt m p .answer) × Holds (touchAt m p .after)
+    (planLeaves x k (placeOf z i b)))
     (sym (h .sizes-are)) like in
     record { answer-is = same .0 ∙ ap (λ r. r .answer) (sym o); holds = subst (λ (r : Out). Holds (r .after) left) (sym o) (same .1) }
 

@@ -92,7 +92,8 @@ fn map_page(
     p: usize,
 ) -> Taken
     requires { ⌜ Mappable h (now count) (now table) (now helper) (now stack) (now cache) (now link) a p ⌝ }
-    ensures { λ r. ⌜ Mapped h (now (count .entry)) (now (table .entry)) (now (helper .entry)) (now (stack .entry)) (now (cache .entry)) (now (link .entry)) a p r
+    ensures { λ r. ⌜ Mapped h (now (count .entry)) (now (table .entry)) (now (helper .entry)) (now (stack .entry)) (now (cache .entry)) (now (link .entry)) a
+        p r
         (now (count .exit)) (now (table .exit)) (now (helper .exit)) (now (stack .exit)) (now (cache .exit)) (now (link .exit)) ⌝ }
 {
     let new = pool::take(h, link);
@@ -121,7 +122,8 @@ fn planned(
     cache: &[u32],
 ) -> Plan
     requires { ⌜ Ready head space page (now index) (now count) (now table) (now helper) (now stack) (now cache) ⌝ }
-    ensures { λ r. ⌜ Planned head space page (now (index .entry)) (now (count .entry)) (now (table .entry)) (now (helper .entry)) (now (stack .entry)) (now (cache .entry)) r ⌝ }
+    ensures { λ r. ⌜ Planned head space page (now (index .entry)) (now (count .entry)) (now (table .entry)) (now (helper .entry)) (now (stack .entry))
+        (now (cache .entry)) r ⌝ }
 {
     let s = see(head, space, page, index, count, table, helper, stack, cache);
     plan_for(head, s, count, stack, all_places(head))
@@ -143,9 +145,11 @@ pub fn touch_checked(
     requires { ⌜ Touchable head space page (now index) (now count) (now table) (now helper) (now stack) (now cache) (now link) ⌝ }
     ensures { λ r. ⌜ ((ram : List ℕ) →
         Did (machine.touch space page)
-        (memory head (now (index .entry)) (now (count .entry)) (now (table .entry)) (now (helper .entry)) (now (stack .entry)) (now (cache .entry)) (now (link .entry)) ram)
+        (memory head (now (index .entry)) (now (count .entry)) (now (table .entry)) (now (helper .entry)) (now (stack .entry)) (now (cache .entry))
+        (now (link .entry)) ram)
         (touchedSays (r .answer))
-        (memory (r .head) (now (index .entry)) (now (count .exit)) (now (table .exit)) (now (helper .exit)) (now (stack .exit)) (now (cache .exit)) (now (link .exit)) ram)) ⌝ }
+        (memory (r .head) (now (index .entry)) (now (count .exit)) (now (table .exit)) (now (helper .exit)) (now (stack .exit)) (now (cache .exit))
+        (now (link .exit)) ram)) ⌝ }
 {
     let todo = planned(head, space, page, index, count, table, helper, stack, cache);
     match todo {
@@ -185,9 +189,11 @@ pub fn touch(
 ) -> TouchOut
     ensures { λ r. ⌜ ((ram : List ℕ) →
         Did (machine.touch space page)
-        (memory head (now (index .entry)) (now (count .entry)) (now (table .entry)) (now (helper .entry)) (now (stack .entry)) (now (cache .entry)) (now (link .entry)) ram)
+        (memory head (now (index .entry)) (now (count .entry)) (now (table .entry)) (now (helper .entry)) (now (stack .entry)) (now (cache .entry))
+        (now (link .entry)) ram)
         (touchedSays (r .answer))
-        (memory (r .head) (now (index .entry)) (now (count .exit)) (now (table .exit)) (now (helper .exit)) (now (stack .exit)) (now (cache .exit)) (now (link .exit)) ram)) ⌝ }
+        (memory (r .head) (now (index .entry)) (now (count .exit)) (now (table .exit)) (now (helper .exit)) (now (stack .exit)) (now (cache .exit))
+        (now (link .exit)) ram)) ⌝ }
 {
     let lent = Lengths {
         index: index.len(),

@@ -33,7 +33,8 @@ module _ {h : Head} {i first end : ℕ} {count table helper stack cache : List �
   none-residing l = record { low = omega arith; high = l; resident = λ b a c. absurd (omega arith) }
 
   module _ {page : ℕ} (so-far : Residing h i first end count table helper stack cache page) where
-    pub one-residing : page < end → {f : ℕ} → f ≡ frameOf h i page count table helper stack cache → f < h .frames → Residing h i first end count table helper stack cache (page + 1)
+    pub one-residing : page < end → {f : ℕ} → f ≡ frameOf h i page count table helper stack cache → f < h .frames
+        → Residing h i first end count table helper stack cache (page + 1)
     one-residing l is below =
         record {
           low = omega (arith, so-far .low);
@@ -48,14 +49,16 @@ module _ {h : Head} {i first end : ℕ} {count table helper stack cache : List �
     pub all-residing : end ≤ page → Whether (AllResident h i first end count table helper stack cache) true
     all-residing l = record { yes = λ _ b a c. so-far .resident b a (omega arith); no = λ e. absurd (let z : _≡_ {A = ℕ} 0 1 = cc in omega arith) }
 
-    pub one-absent : page < end → {f : ℕ} → f ≡ frameOf h i page count table helper stack cache → h .frames ≤ f → Whether (AllResident h i first end count table helper stack cache) false
+    pub one-absent : page < end → {f : ℕ} → f ≡ frameOf h i page count table helper stack cache → h .frames ≤ f
+        → Whether (AllResident h i first end count table helper stack cache) false
     one-absent l is above =
         record { yes = λ e. absurd (let z : _≡_ {A = ℕ} 0 1 = cc in omega arith); no = λ _ all. omega (arith, all page (so-far .low) l, is) }
 
 -- ---- what it says of a write
 
 module _ (h : Head) (i first : ℕ) (index count table helper stack cache : List ℕ) where
-  pub resident-surveyed : (n : ℕ) → AllResident h i first (first + n) count table helper stack cache → ((b : ℕ) → b < first + n → Ready h i b index count table helper stack cache)
+  pub resident-surveyed : (n : ℕ) → AllResident h i first (first + n) count table helper stack cache
+      → ((b : ℕ) → b < first + n → Ready h i b index count table helper stack cache)
       → Surveyed h i first (first + n) index count table helper stack cache (Absent 0)
   resident-surveyed n all ready = counted-all h i first (first + n) index count table helper stack cache (go n (omega arith)) (omega arith)
     where
@@ -71,7 +74,9 @@ module _ (h : Head) (i first : ℕ) (index count table helper stack cache : List
             in-span = omega arith;
             ready = y;
             found = looked-is.Resident (frameOf h i b count table helper stack cache);
-            looks = look-found h i b index count table helper stack cache y (Mapped (frameOf h i b count table helper stack cache)) _ (frame-seen h i b index count table helper stack cache refl (all b (omega arith) (omega arith))) refl;
+            looks =
+                look-found h i b index count table helper stack cache y (Mapped (frameOf h i b count table helper stack cache)) _
+                (frame-seen h i b index count table helper stack cache refl (all b (omega arith) (omega arith))) refl;
             no-is = refl;
           })
           (go j (omega arith)) refl)
@@ -82,7 +87,8 @@ module _ (h : Head) (i first : ℕ) (index count table helper stack cache : List
   resident-touched link zero all ready ram = none-touched
   resident-touched link (suc n) all ready ram =
       one-touched (resident-touched link n (λ b a c. all b a (omega arith)) (λ b c. ready b (omega arith)) ram)
-      (did-resident h i (first + n) index count table helper stack cache link (ready (first + n) (omega arith)) _ refl (all (first + n) (omega arith) (omega arith)) ram)
+      (did-resident h i (first + n) index count table helper stack cache link (ready (first + n) (omega arith)) _ refl
+      (all (first + n) (omega arith) (omega arith)) ram)
 
 -- with none absent, any pool has enough frames
 pub settled-none : (h : Head) → Settled h (Absent 0) 0

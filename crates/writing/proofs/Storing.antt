@@ -33,7 +33,8 @@ part-back : (from : ℕ) (vs ram last : List ℕ) → from + length vs ≤ lengt
 part-back from vs ram last l long e =
     let n = length vs in
     let rest = drop-of-length-le (take (from + n - from) (drop from ram)) {i = n} (omega arith) in
-    ap₂ (λ (k : ℕ) (ws : List ℕ). take from ram ++ (ws ++ drop k (drop from ram))) (add-sub-cancel-left from n) (e ∙ ap (λ (ws : List ℕ). vs ++ ws) rest ∙ append-nil vs)
+    ap₂ (λ (k : ℕ) (ws : List ℕ). take from ram ++ (ws ++ drop k (drop from ram))) (add-sub-cancel-left from n)
+    (e ∙ ap (λ (ws : List ℕ). vs ++ ws) rest ∙ append-nil vs)
     ∙ ap (λ (ws : List ℕ). take from ram ++ (vs ++ ws)) (drop-drop n from ram)
     ∙ sym (append-assoc (take from ram) vs (drop (from + n) ram))
     ∙ sym (sets-eq vs ram from l)
@@ -114,7 +115,8 @@ module _ (h : Head) (i x : ℕ) (bytes index count table helper stack cache ram�
       let vs = take (done + s - done) (drop done bytes) in
       let long : length vs ≡ s = next-long bytes done (done + s) l ∙ add-sub-cancel-left done s in
       let split : drop done bytes ≡ vs ++ drop (done + s) bytes =
-      sym (take-append-drop (done + s - done) (drop done bytes)) ∙ ap (λ (ws : List ℕ). vs ++ ws) (drop-drop (done + s - done) done bytes ∙ ap (λ (k : ℕ). drop (done + k) bytes) (add-sub-cancel-left done s)) in
+      sym (take-append-drop (done + s - done) (drop done bytes)) ∙ ap (λ (ws : List ℕ). vs ++ ws)
+      (drop-drop (done + s - done) done bytes ∙ ap (λ (k : ℕ). drop (done + k) bytes) (add-sub-cancel-left done s)) in
       record {
         within = l;
         words = subst (λ (k : ℕ). Words (done + k) (sizesOf h .frames * sizesOf h .page) ram₁ ram′) long (words-then (c .words) (part .words));
@@ -123,7 +125,8 @@ module _ (h : Head) (i x : ℕ) (bytes index count table helper stack cache ram�
             ∙ ap (λ (ws : List ℕ). stored m i (x + done) ws ram) split
             ∙ stored-append m i (x + done) vs (drop (done + s) bytes) ram
             ∙ ap₂ (λ (y : ℕ) (r : List ℕ). stored m i y (drop (done + s) bytes) r) (ap (λ (k : ℕ). x + done + k) long ∙ add-assoc x done s)
-            (sym (part .honest link ram₀ m H (λ j b. subst (λ (y : ℕ). IsMapped m (pageOfAddress (m .sizes) i y)) (sym (add-assoc x done j)) (on (done + j) (omega arith)))));
+            (sym (part .honest link ram₀ m H
+            (λ j b. subst (λ (y : ℕ). IsMapped m (pageOfAddress (m .sizes) i y)) (sym (add-assoc x done j)) (on (done + j) (omega arith)))));
       }
 
   pub storing-all : (ram : List ℕ) (done : ℕ) → Storing ram done → length bytes ≤ done → Stored h i x bytes index count table helper stack cache ram₁ ram

@@ -8,7 +8,8 @@ use native.Mathlib.Omega.{arith}
 use borrow.Author.Tests.{lt-ltb, le-ltb}
 use lib.Dec.{ltb}
 use lib.ListN.{length}
-use Rattle.machine.specs.Machine.{Sizes, sizesOk, placeOf, State, Lent, Page, outside, unmapped, mapped, pageOf, wordsAt, look, free, asked, frames, lookPage, absence, isOutside, anyOutside, isUnmapped, countAbsent, accepted}
+use Rattle.machine.specs.Machine.{Sizes, sizesOk, placeOf, State, Lent, Page, outside, unmapped, mapped, pageOf, wordsAt, look, free, asked, frames, lookPage}
+use Rattle.machine.specs.Machine.{absence, isOutside, anyOutside, isUnmapped, countAbsent, accepted}
 use Rattle.machine.specs.Answers.{lookedSays, freeSays}
 use Rattle.machine.specs.declared.Looked.{Looked}
 use Rattle.machine.specs.declared.Looked.the-variants as looked-is
@@ -45,7 +46,8 @@ absence-is m p found e = go found (pageOf m p) e
     go (looked-is.Refused n v) (unmapped a) e = absurd (let z : _≡_ {A = ℕ} 0 1 = cc in omega arith)
     go (looked-is.Refused n v) (mapped a g) e = absurd (let z : _≡_ {A = ℕ} 0 1 = cc in omega arith)
 
-refused-late : (i b : ℕ) (l : Lent) (r : Looked) → Later (look i b l) (lookedSays r) → (absenceOf r ≡ 0 → ⊥) → (absenceOf r ≡ 10 → ⊥) → Among (4 ∷ 9 ∷ []) (absenceOf r)
+refused-late : (i b : ℕ) (l : Lent) (r : Looked) → Later (look i b l) (lookedSays r) → (absenceOf r ≡ 0 → ⊥) → (absenceOf r ≡ 10 → ⊥)
+    → Among (4 ∷ 9 ∷ []) (absenceOf r)
 refused-late i b l (looked-is.Resident f) g d t = absurd (d refl)
 refused-late i b l (looked-is.Absent w) g d t = absurd (t refl)
 refused-late i b l (looked-is.Refused n w) g d t = g
@@ -116,12 +118,15 @@ module _ (h : Head) (i first end : ℕ) (index count table helper stack cache : 
     told : (link ram : List ℕ) (m : State) → Holds m (lent link ram) → no ≡ absence (pageOf m (placeOf (m .sizes) i page))
     told link ram m H =
         look-of .no-is
-        ∙ absence-is m _ (look-of .found) (page-found m (lent link ram) H i page (look-of .ready .space) (look-of .ready .page) (look-of .found) (look-of .looks link ram))
+        ∙ absence-is m _ (look-of .found)
+        (page-found m (lent link ram) H i page (look-of .ready .space) (look-of .ready .page) (look-of .found) (look-of .looks link ram))
 
     -- the pages from `page` on are it and the rest
     span-more : (m : State)
-        → (anyOutside m (placeOf (m .sizes) i page) (end - page) ≡ isOutside (pageOf m (placeOf (m .sizes) i page)) || anyOutside m (placeOf (m .sizes) i (page + 1)) (end - (page + 1)))
-        × (countAbsent m (placeOf (m .sizes) i page) (end - page) ≡ isUnmapped (pageOf m (placeOf (m .sizes) i page)) + countAbsent m (placeOf (m .sizes) i (page + 1)) (end - (page + 1)))
+        → (anyOutside m (placeOf (m .sizes) i page) (end - page) ≡ isOutside (pageOf m (placeOf (m .sizes) i page)) || anyOutside m
+        (placeOf (m .sizes) i (page + 1)) (end - (page + 1)))
+        × (countAbsent m (placeOf (m .sizes) i page) (end - page) ≡ isUnmapped (pageOf m (placeOf (m .sizes) i page)) + countAbsent m
+        (placeOf (m .sizes) i (page + 1)) (end - (page + 1)))
     unfolding anyOutside countAbsent
     span-more m =
         let p = placeOf (m .sizes) i page in
@@ -154,7 +159,8 @@ module _ (h : Head) (i first end : ℕ) (index count table helper stack cache : 
     pub counted-absent : {absent : ℕ} → Counted absent page → no ≡ 10 → Counted (absent + 1) (page + 1)
     counted-absent {absent} c e = counted-next absent 1 c (omega arith) (λ g q. page-absent g (sym q ∙ e))
 
-    pub counted-outside : {absent : ℕ} → Counted absent page → (no ≡ 0 → ⊥) → (no ≡ 10 → ⊥) → Surveyed h i first end index count table helper stack cache (Refused no)
+    pub counted-outside : {absent : ℕ} → Counted absent page → (no ≡ 0 → ⊥) → (no ≡ 10 → ⊥)
+        → Surveyed h i first end index count table helper stack cache (Refused no)
     counted-outside c d t =
         record {
           late = rw (look-of .no-is) (refused-late i page _ (look-of .found) late (λ e. d (look-of .no-is ∙ e)) (λ e. t (look-of .no-is ∙ e)));
@@ -223,6 +229,7 @@ settles-if : (b : Bool) → cond b 8 0 ≡ writeRefusal false b
 settles-if true = refl
 settles-if false = refl
 
-pub settles : (m : State) (p k : ℕ) (s : Tally) → TallyIs m p k s → settledBy (length (m .pool)) s ≡ writeRefusal (anyOutside m p k) (ltb (length (m .pool)) (countAbsent m p k))
+pub settles : (m : State) (p k : ℕ) (s : Tally) → TallyIs m p k s
+    → settledBy (length (m .pool)) s ≡ writeRefusal (anyOutside m p k) (ltb (length (m .pool)) (countAbsent m p k))
 settles m p k (Absent c) t = rw (t .0, t .1) (settles-if (ltb (length (m .pool)) (countAbsent m p k)))
 settles m p k (Refused n) t = rw (t .0) (t .1)

@@ -20,7 +20,8 @@ pub touched-none : {i first end : ℕ} {k : List ℕ → Memory} → first ≤ e
 touched-none l = record { low = omega arith; high = l; touched = λ ram. rw sub-self none-touched }
 
 module _ {i first end page : ℕ} {k k₁ : List ℕ → Memory} (s : SoFar i first end page k k₁) where
-  pub touched-more : {k₂ : List ℕ → Memory} {a : Answer} → page < end → ((ram : List ℕ) → Did (touch i page) (k₁ ram) a (k₂ ram)) → SoFar i first end (page + 1) k k₂
+  pub touched-more : {k₂ : List ℕ → Memory} {a : Answer} → page < end → ((ram : List ℕ) → Did (touch i page) (k₁ ram) a (k₂ ram))
+      → SoFar i first end (page + 1) k k₂
   touched-more {k₂} {a} l d =
       let here : page ≡ first + (page - first) = omega (arith, s .low) in
       let one : page + 1 - first ≡ suc (page - first) = omega (arith, s .low) in

@@ -29,7 +29,8 @@ use Rattle.writing.proofs.Surveying.{settles}
 use Rattle.writing.proofs.Residing.{resident-surveyed, resident-touched, settled-none}
 
 -- the number of the check
-pub number-is : (k : Memory) (i x : ℕ) (vs : List ℕ) {no : ℕ} {inside : Bool} → no ≡ checkOf (k .head) (writeLengths k) i inside → inside ≡ spanInside (k .head) x (length vs)
+pub number-is : (k : Memory) (i x : ℕ) (vs : List ℕ) {no : ℕ} {inside : Bool} → no ≡ checkOf (k .head) (writeLengths k) i inside
+    → inside ≡ spanInside (k .head) x (length vs)
     → no ≡ asked (sizesOf (k .head)) (write i x vs (lengths k))
 number-is k i x vs e inside-is = e ∙ ap (checkOf (k .head) (writeLengths k) i) inside-is ∙ write-check k i x vs
 
@@ -58,7 +59,8 @@ module _ {k : Memory} {i x : ℕ} {vs : List ℕ} {first pages : ℕ} (s : Spann
   end-small = omega (arith, end-inside, fit z (admitted .sizes-ok) .few-pages)
 
   pub span-lookable : Lookable (k .head) i (k .index) (k .count) (k .table) (k .helper) (k .stack) (k .cache)
-  span-lookable = lookable (k .head) i (k .index) (k .count) (k .table) (k .helper) (k .stack) (k .cache) _ _ (admitted .sizes-ok) (admitted .space) (admitted .lent)
+  span-lookable =
+      lookable (k .head) i (k .index) (k .count) (k .table) (k .helper) (k .stack) (k .cache) _ _ (admitted .sizes-ok) (admitted .space) (admitted .lent)
 
   pub span-touchable : (b : ℕ) → b < first + pages → Touchable (k .head) i b (k .index) (k .count) (k .table) (k .helper) (k .stack) (k .cache) (k .link)
   span-touchable b l = record { ready = span-lookable b (omega (arith, end-inside)); link-long = admitted .lent .link refl }
@@ -87,7 +89,9 @@ module _ {k : Memory} {i x : ℕ} {vs : List ℕ} {first pages : ℕ} (s : Spann
   module _ (all : AllResident (k .head) i first (first + pages) (k .count) (k .table) (k .helper) (k .stack) (k .cache)) where
     pub resident-decided : Decided k i x vs 0
     resident-decided =
-        decided (resident-surveyed (k .head) i first (k .index) (k .count) (k .table) (k .helper) (k .stack) (k .cache) pages all (λ b l. span-touchable b l .ready)) (settled-none (k .head))
+        decided
+        (resident-surveyed (k .head) i first (k .index) (k .count) (k .table) (k .helper) (k .stack) (k .cache) pages all (λ b l. span-touchable b l .ready))
+        (settled-none (k .head))
 
     pub resident-stay : AllTouched i first k (first + pages - first) k
     resident-stay =
@@ -114,7 +118,8 @@ module _ {k : Memory} {i x : ℕ} {vs : List ℕ} {first pages : ℕ} (s : Spann
     next-lookable b l = still-ready (all-tables touched) (span-lookable b (subst (λ (y : Sizes). b < y .pages) sizes-stay l))
 
     pub written : {short : ℕ} → Decided k i x vs short → short ≡ 0 → k₁ .index ≡ k .index → {ram : List ℕ}
-        → Stored (k₁ .head) i x vs (k₁ .index) (k₁ .count) (k₁ .table) (k₁ .helper) (k₁ .stack) (k₁ .cache) (k .ram) ram → Did (write i x vs) k done (withBytes k₁ ram)
+        → Stored (k₁ .head) i x vs (k₁ .index) (k₁ .count) (k₁ .table) (k₁ .helper) (k₁ .stack) (k₁ .cache) (k .ram) ram → Did (write i x vs) k done
+        (withBytes k₁ ram)
     written d none index {ram} stores =
         write-done i x vs k (s .passes) k₁ ram
         (subst (λ (b : ℕ). AllTouched i b k (spanPages z x (length vs)) k₁) (s .first-is) (subst (λ (n : ℕ). AllTouched i first k n k₁) count-is touched))

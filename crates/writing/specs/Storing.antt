@@ -48,7 +48,8 @@ module _ (m : State) (i : ℕ) where
 
 changed-sets : (ws : List ℕ) (q : ℕ) (vs : List ℕ) → Changed (length vs) ws (sets ws q vs)
 changed-sets ws q [] = changed-none 0 ws
-changed-sets ws q (v ∷ vs) = changed-more (let l : 1 + length vs ≤ suc (length vs) = omega arith in l) (changed-then (changed-set ws q v) (changed-sets (set ws q v) (suc q) vs))
+changed-sets ws q (v ∷ vs) =
+    changed-more (let l : 1 + length vs ≤ suc (length vs) = omega arith in l) (changed-then (changed-set ws q v) (changed-sets (set ws q v) (suc q) vs))
 
 drop-sets : (n : ℕ) (ws : List ℕ) (q : ℕ) (vs : List ℕ) → q + length vs ≤ n → drop n (sets ws q vs) ≡ drop n ws
 drop-sets n ws q [] h = refl

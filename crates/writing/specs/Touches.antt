@@ -49,7 +49,9 @@ all-tables (one-touched {n} {k₁} {k₂} t d) = add-touch n (all-tables t) (d .
 pub touch-all-more : (m : State) (p n : ℕ) → touchAll m p (suc n) ≡ touchAt (touchAll m p n) (p + n) .after
 unfolding touchAll
 touch-all-more m p zero = rw add-zero
-touch-all-more m p (suc n) = touch-all-more (touchAt m p .after) (suc p) n ∙ ap (λ (q : ℕ). touchAt (touchAll (touchAt m p .after) (suc p) n) q .after) (suc-add p n ∙ sym (add-suc p n))
+touch-all-more m p (suc n) =
+    touch-all-more (touchAt m p .after) (suc p) n
+    ∙ ap (λ (q : ℕ). touchAt (touchAll (touchAt m p .after) (suc p) n) q .after) (suc-add p n ∙ sym (add-suc p n))
 
 pub all-touched-holds : {i b n : ℕ} {k k₁ : Memory} (m : State) → Holds m k → i < m .sizes .spaces → b + n ≤ m .sizes .pages → AllTouched i b k n k₁
     → Holds (touchAll m (placeOf (m .sizes) i b) n) k₁

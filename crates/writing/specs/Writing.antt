@@ -9,7 +9,8 @@ use borrow.Author.Tests.{leb-true, ltb-true, ltb-false}
 use lib.Dec.{leb, ltb}
 use lib.ListN.{length}
 use Rattle.places.specs.Laws.{div-mono}
-use Rattle.machine.specs.Machine.{Sizes, sizesOk, spaceBytes, State, pageOfAddress, spanPages, Lent, uses, enough, write, asked, refused, done, tell, countAbsent, stored, withRam, storeAll, spanTouched, spanOutside, spanShort, writeIf, writeAt, accepted, after}
+use Rattle.machine.specs.Machine.{Sizes, sizesOk, spaceBytes, State, pageOfAddress, spanPages, Lent, uses, enough, write, asked, refused, done, tell}
+use Rattle.machine.specs.Machine.{countAbsent, stored, withRam, storeAll, spanTouched, spanOutside, spanShort, writeIf, writeAt, accepted, after}
 use Rattle.machine.specs.Laws.Sizes.{both, Fit, fit, some-bytes, passed, page-below}
 use Rattle.machine.specs.Laws.Bytes.{in-pages}
 use Rattle.machine.specs.Laws.Kept.{sound-stored}
@@ -104,13 +105,15 @@ module _ (i x : ℕ) (vs : List ℕ) (k : Memory) (passes : asked (sizesOf (k .h
         let a = write-admitted z i x vs (lengths k) (asked-of m h) in
         let f = fit z (a .sizes-ok) in
         let t = all-tables touched in
-        let h₁ = all-touched-holds m h (a .space) (span-pages-inside z f x n (a .fits)) (subst (λ y. AllTouched i (x / y .page) k (spanPages y x n) k₁) (h .sizes-are) touched) in
+        let h₁ = all-touched-holds m h (a .space) (span-pages-inside z f x n (a .fits))
+        (subst (λ y. AllTouched i (x / y .page) k (spanPages y x n) k₁) (h .sizes-are) touched) in
         let g = grown-all-touched m p q (h .sound) .sizes-same in
         let s = none-refused (spanOutside m i x (length vs)) (spanShort m i x (length vs)) (settled m h) in
         let mapped : SpanMapped m₁ i x n =
         λ j l.
         let b = in-pages z i x n (x + j) (some-bytes z f) (omega arith) (omega arith) in
-        subst (IsMapped m₁) (b .2 ∙ ap (λ y. pageOfAddress y i (x + j)) (sym g)) (span-mapped m p q (h .sound) (s .0) (ltb-false (length (m .pool)) (countAbsent m p q) (s .1)) (b .0) (b .1)) in
+        subst (IsMapped m₁) (b .2 ∙ ap (λ y. pageOfAddress y i (x + j)) (sym g))
+        (span-mapped m p q (h .sound) (s .0) (ltb-false (length (m .pool)) (countAbsent m p q) (s .1)) (b .0) (b .1)) in
         let is : stored m₁ i x vs (m₁ .ram) ≡ ram = ap (stored m₁ i x vs) (sym (h₁ .ram-is) ∙ t .ram) ∙ sym (stores m₁ h₁ mapped) in
         rw is (bytes-hold m₁ k₁ ram h₁ (words .few .size ∙ sym (ap length (t .ram))))
 

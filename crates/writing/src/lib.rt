@@ -52,8 +52,10 @@ fn all_resident(
     stack: &[u32],
     cache: &[u32],
 ) -> bool
-    requires { ⌜ ((index : List ℕ) × (first ≤ end) × (end ≤ head .pages) × Lookable head space index (now count) (now table) (now helper) (now stack) (now cache)) ⌝ }
-    ensures { λ r. ⌜ Whether (AllResident head space first end (now (count .entry)) (now (table .entry)) (now (helper .entry)) (now (stack .entry)) (now (cache .entry))) r ⌝ }
+    requires { ⌜ ((index : List ℕ) × (first ≤ end) × (end ≤ head .pages) × Lookable head space index (now count) (now table) (now helper) (now stack)
+        (now cache)) ⌝ }
+    ensures { λ r. ⌜ Whether
+        (AllResident head space first end (now (count .entry)) (now (table .entry)) (now (helper .entry)) (now (stack .entry)) (now (cache .entry))) r ⌝ }
 {
     let mut page = first;
     while page < end {
@@ -80,7 +82,8 @@ fn survey(
     cache: &[u32],
 ) -> Tally
     requires { ⌜ (first ≤ end) × (end ≤ head .pages) × Lookable head space (now index) (now count) (now table) (now helper) (now stack) (now cache) ⌝ }
-    ensures { λ r. ⌜ Surveyed head space first end (now (index .entry)) (now (count .entry)) (now (table .entry)) (now (helper .entry)) (now (stack .entry)) (now (cache .entry)) r ⌝ }
+    ensures { λ r. ⌜ Surveyed head space first end (now (index .entry)) (now (count .entry)) (now (table .entry)) (now (helper .entry)) (now (stack .entry))
+        (now (cache .entry)) r ⌝ }
 {
     let mut absent = 0;
     let mut page = first;
@@ -142,9 +145,11 @@ fn touch_next(
     requires { ⌜ Touchable head space page (now index) (now count) (now table) (now helper) (now stack) (now cache) (now link) ⌝ }
     ensures { λ r. ⌜ ((a : machine.Answer) × ((ram : List ℕ) →
         Did (machine.touch space page)
-        (memory head (now (index .entry)) (now (count .entry)) (now (table .entry)) (now (helper .entry)) (now (stack .entry)) (now (cache .entry)) (now (link .entry)) ram)
+        (memory head (now (index .entry)) (now (count .entry)) (now (table .entry)) (now (helper .entry)) (now (stack .entry)) (now (cache .entry))
+        (now (link .entry)) ram)
         a
-        (memory r (now (index .entry)) (now (count .exit)) (now (table .exit)) (now (helper .exit)) (now (stack .exit)) (now (cache .exit)) (now (link .exit)) ram))) ⌝ }
+        (memory r (now (index .entry)) (now (count .exit)) (now (table .exit)) (now (helper .exit)) (now (stack .exit)) (now (cache .exit))
+        (now (link .exit)) ram))) ⌝ }
 {
     if frame_of(head, space, page, count, table, helper, stack, cache) < head.frames {
         return head;
@@ -178,12 +183,15 @@ fn touch_all(
     cache: &mut [u32],
     link: &mut [u32],
 ) -> Head
-    requires { ⌜ (first ≤ end) × ((b : ℕ) → b < end → Touchable head space b (now index) (now count) (now table) (now helper) (now stack) (now cache) (now link)) ⌝ }
+    requires { ⌜ (first ≤ end)
+        × ((b : ℕ) → b < end → Touchable head space b (now index) (now count) (now table) (now helper) (now stack) (now cache) (now link)) ⌝ }
     ensures { λ r. ⌜ ((ram : List ℕ) →
         AllTouched space first
-        (memory head (now (index .entry)) (now (count .entry)) (now (table .entry)) (now (helper .entry)) (now (stack .entry)) (now (cache .entry)) (now (link .entry)) ram)
+        (memory head (now (index .entry)) (now (count .entry)) (now (table .entry)) (now (helper .entry)) (now (stack .entry)) (now (cache .entry))
+        (now (link .entry)) ram)
         (end - first)
-        (memory r (now (index .entry)) (now (count .exit)) (now (table .exit)) (now (helper .exit)) (now (stack .exit)) (now (cache .exit)) (now (link .exit)) ram)) ⌝ }
+        (memory r (now (index .entry)) (now (count .exit)) (now (table .exit)) (now (helper .exit)) (now (stack .exit)) (now (cache .exit))
+        (now (link .exit)) ram)) ⌝ }
 {
     let mut after = head;
     let mut next = first;
@@ -219,8 +227,10 @@ fn write_part(
     cache: &[u32],
     ram: &mut [u8],
 )
-    requires { ⌜ Part head space x (length (now src)) (now ram) × Lookable head space (now index) (now count) (now table) (now helper) (now stack) (now cache) ⌝ }
-    ensures { λ _. ⌜ Stored head space x (now (src .entry)) (now (index .entry)) (now (count .entry)) (now (table .entry)) (now (helper .entry)) (now (stack .entry)) (now (cache .entry)) (now (ram .entry)) (now (ram .exit)) ⌝ }
+    requires { ⌜ Part head space x (length (now src)) (now ram) × Lookable head space (now index) (now count) (now table) (now helper) (now stack)
+        (now cache) ⌝ }
+    ensures { λ _. ⌜ Stored head space x (now (src .entry)) (now (index .entry)) (now (count .entry)) (now (table .entry)) (now (helper .entry))
+        (now (stack .entry)) (now (cache .entry)) (now (ram .entry)) (now (ram .exit)) ⌝ }
 {
     let page = page_of(head, x);
     let found = look_checked(
@@ -259,8 +269,10 @@ fn store(
     cache: &[u32],
     ram: &mut [u8],
 )
-    requires { ⌜ Span head space address (length (now bytes)) (now ram) × Lookable head space (now index) (now count) (now table) (now helper) (now stack) (now cache) ⌝ }
-    ensures { λ _. ⌜ Stored head space address (now (bytes .entry)) (now (index .entry)) (now (count .entry)) (now (table .entry)) (now (helper .entry)) (now (stack .entry)) (now (cache .entry)) (now (ram .entry)) (now (ram .exit)) ⌝ }
+    requires { ⌜ Span head space address (length (now bytes)) (now ram) × Lookable head space (now index) (now count) (now table) (now helper) (now stack)
+        (now cache) ⌝ }
+    ensures { λ _. ⌜ Stored head space address (now (bytes .entry)) (now (index .entry)) (now (count .entry)) (now (table .entry)) (now (helper .entry))
+        (now (stack .entry)) (now (cache .entry)) (now (ram .entry)) (now (ram .exit)) ⌝ }
 {
     let n = bytes.len();
     let mut done = 0;
@@ -301,9 +313,11 @@ pub fn write(
 ) -> WriteOut
     ensures { λ r. ⌜
         Did (machine.write space address (now (bytes .entry)))
-        (memory head (now (index .entry)) (now (count .entry)) (now (table .entry)) (now (helper .entry)) (now (stack .entry)) (now (cache .entry)) (now (link .entry)) (now (ram .entry)))
+        (memory head (now (index .entry)) (now (count .entry)) (now (table .entry)) (now (helper .entry)) (now (stack .entry)) (now (cache .entry))
+        (now (link .entry)) (now (ram .entry)))
         (doneSays (r .answer))
-        (memory (r .head) (now (index .entry)) (now (count .exit)) (now (table .exit)) (now (helper .exit)) (now (stack .exit)) (now (cache .exit)) (now (link .exit)) (now (ram .exit))) ⌝ }
+        (memory (r .head) (now (index .entry)) (now (count .exit)) (now (table .exit)) (now (helper .exit)) (now (stack .exit)) (now (cache .exit))
+        (now (link .exit)) (now (ram .exit))) ⌝ }
 {
     let n = bytes.len();
     let lent = Lengths {

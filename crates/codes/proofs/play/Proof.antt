@@ -12,12 +12,14 @@ use Rattle.codes.proofs.play.Statement.{statement}
 use Rattle.codes.proofs.play.Tie as tie
 
 abbrev Inv-loop : tie.InvT-loop
-Inv-loop codes replies₀ bytes₀ records₀ index₀ count₀ table₀ helper₀ stack₀ cache₀ link₀ ram₀ n next₀ j₀ replies bytes records index count table helper stack cache link ram next j =
+Inv-loop codes replies₀ bytes₀ records₀ index₀ count₀ table₀ helper₀ stack₀ cache₀ link₀ ram₀ n next₀ j₀ replies bytes records index count table helper stack
+    cache link ram next j =
     Playing codes n (memory next₀ index₀ count₀ table₀ helper₀ stack₀ cache₀ link₀ ram₀) (record { replies = replies₀; bytes = bytes₀; records = records₀ })
     (memory next index count table helper stack cache link ram) (record { replies = replies; bytes = bytes; records = records }) j
 
 abbrev μ-loop : tie.MeasureT-loop
-μ-loop codes replies₀ bytes₀ records₀ index₀ count₀ table₀ helper₀ stack₀ cache₀ link₀ ram₀ n next₀ j₀ replies bytes records index count table helper stack cache link ram next j =
+μ-loop codes replies₀ bytes₀ records₀ index₀ count₀ table₀ helper₀ stack₀ cache₀ link₀ ram₀ n next₀ j₀ replies bytes records index count table helper stack
+    cache link ram next j =
     n - j
 
 -- the next code lies inside the list, and so does its reply
@@ -28,11 +30,13 @@ bounds c = code-inside _ _ _ _ (c .before .before .least .ensures) (c .loop-test
 
 -- their bytes are numbers of 64 bits
 codes-small : (c : tie.In-loop Inv-loop μ-loop)
-    → length (c .before .before .before .before .before .before .before .before .before .before .before .before .before .before .before .args .codes .now) * 8 < 2 ^ 63
+    → length (c .before .before .before .before .before .before .before .before .before .before .before .before .before .before .before .args .codes .now) *
+    8 < 2 ^ 63
 codes-small c = c .before .before .before .before .before .before .before .before .before .before .before .before .before .before .before .good .1 .0 .1
 
 replies-small : (c : tie.In-loop Inv-loop μ-loop)
-    → length (c .before .before .before .before .before .before .before .before .before .before .before .before .before .before .before .args .replies .now) * 8 < 2 ^ 63
+    → length (c .before .before .before .before .before .before .before .before .before .before .before .before .before .before .before .args .replies .now)
+    * 8 < 2 ^ 63
 replies-small c = c .before .before .before .before .before .before .before .before .before .before .before .before .before .before .before .good .1 .1 .0 .1
 
 loop-holds : tie.Need-loop-holds Inv-loop μ-loop
@@ -69,43 +73,55 @@ mul-play-one-3 : tie.Need-mul-play-one-3 Inv-loop μ-loop
 mul-play-one-3 c = let b = bounds (c .before .before) in omega (arith, codes-small (c .before .before), replies-small (c .before .before))
 
 shared-slice-read-play-one-3 : tie.Need-shared-slice-read-play-one-3 Inv-loop μ-loop
-shared-slice-read-play-one-3 c = let b = bounds (c .before .before .before) in omega (arith, codes-small (c .before .before .before), replies-small (c .before .before .before))
+shared-slice-read-play-one-3 c =
+    let b = bounds (c .before .before .before) in omega (arith, codes-small (c .before .before .before), replies-small (c .before .before .before))
 
 add-play-one-3 : tie.Need-add-play-one-3 Inv-loop μ-loop
-add-play-one-3 c = let b = bounds (c .before .before .before) in omega (arith, codes-small (c .before .before .before), replies-small (c .before .before .before))
+add-play-one-3 c =
+    let b = bounds (c .before .before .before) in omega (arith, codes-small (c .before .before .before), replies-small (c .before .before .before))
 
 mul-play-one-4 : tie.Need-mul-play-one-4 Inv-loop μ-loop
-mul-play-one-4 c = let b = bounds (c .before .before .before) in omega (arith, codes-small (c .before .before .before), replies-small (c .before .before .before))
+mul-play-one-4 c =
+    let b = bounds (c .before .before .before) in omega (arith, codes-small (c .before .before .before), replies-small (c .before .before .before))
 
 shared-slice-read-play-one-4 : tie.Need-shared-slice-read-play-one-4 Inv-loop μ-loop
-shared-slice-read-play-one-4 c = let b = bounds (c .before .before .before .before) in omega (arith, codes-small (c .before .before .before .before), replies-small (c .before .before .before .before))
+shared-slice-read-play-one-4 c = let b = bounds (c .before .before .before .before) in omega
+    (arith, codes-small (c .before .before .before .before), replies-small (c .before .before .before .before))
 
 add-play-one-4 : tie.Need-add-play-one-4 Inv-loop μ-loop
-add-play-one-4 c = let b = bounds (c .before .before .before .before) in omega (arith, codes-small (c .before .before .before .before), replies-small (c .before .before .before .before))
+add-play-one-4 c = let b = bounds (c .before .before .before .before) in omega
+    (arith, codes-small (c .before .before .before .before), replies-small (c .before .before .before .before))
 
 mul-play-one-5 : tie.Need-mul-play-one-5 Inv-loop μ-loop
-mul-play-one-5 c = let b = bounds (c .before .before .before .before) in omega (arith, codes-small (c .before .before .before .before), replies-small (c .before .before .before .before))
+mul-play-one-5 c = let b = bounds (c .before .before .before .before) in omega
+    (arith, codes-small (c .before .before .before .before), replies-small (c .before .before .before .before))
 
 shared-slice-read-play-one-5 : tie.Need-shared-slice-read-play-one-5 Inv-loop μ-loop
-shared-slice-read-play-one-5 c = let b = bounds (c .before .before .before .before .before) in omega (arith, codes-small (c .before .before .before .before .before), replies-small (c .before .before .before .before .before))
+shared-slice-read-play-one-5 c = let b = bounds (c .before .before .before .before .before) in omega
+    (arith, codes-small (c .before .before .before .before .before), replies-small (c .before .before .before .before .before))
 
 mul-play-one-6 : tie.Need-mul-play-one-6 Inv-loop μ-loop
-mul-play-one-6 c = let b = bounds (c .before .before .before .before .before) in omega (arith, codes-small (c .before .before .before .before .before), replies-small (c .before .before .before .before .before))
+mul-play-one-6 c = let b = bounds (c .before .before .before .before .before) in omega
+    (arith, codes-small (c .before .before .before .before .before), replies-small (c .before .before .before .before .before))
 
 sub-play-one : tie.Need-sub-play-one Inv-loop μ-loop
-sub-play-one c = let b = bounds (c .before .before .before .before .before) in omega (arith, codes-small (c .before .before .before .before .before), replies-small (c .before .before .before .before .before))
+sub-play-one c = let b = bounds (c .before .before .before .before .before) in omega
+    (arith, codes-small (c .before .before .before .before .before), replies-small (c .before .before .before .before .before))
 
 part-play-one-start : tie.Need-part-play-one-start Inv-loop μ-loop
-part-play-one-start c = let b = bounds (c .before .before .before .before .before) in omega (arith, codes-small (c .before .before .before .before .before), replies-small (c .before .before .before .before .before))
+part-play-one-start c = let b = bounds (c .before .before .before .before .before) in omega
+    (arith, codes-small (c .before .before .before .before .before), replies-small (c .before .before .before .before .before))
 
 part-play-one-end : tie.Need-part-play-one-end Inv-loop μ-loop
-part-play-one-end c = let b = bounds (c .before .before .before .before .before) in omega (arith, codes-small (c .before .before .before .before .before), replies-small (c .before .before .before .before .before))
+part-play-one-end c = let b = bounds (c .before .before .before .before .before) in omega
+    (arith, codes-small (c .before .before .before .before .before), replies-small (c .before .before .before .before .before))
 
 play-one-requires : tie.Need-play-one-requires Inv-loop μ-loop
 play-one-requires c κs =
     let l = c .before .before .before .before .before .before .before .before .before .before .before .before .before .before .before .before in
     let b = bounds l in
-    mid-len (3 * l .before .loop .j) (3 * l .before .loop .j + 3) (l .before .loop .replies) (omega (arith, l .before .loop .inv .replies-long)) ∙ (omega arith)
+    mid-len (3 * l .before .loop .j) (3 * l .before .loop .j + 3) (l .before .loop .replies) (omega (arith, l .before .loop .inv .replies-long))
+    ∙ (omega arith)
 
 add-j : tie.Need-add-j Inv-loop μ-loop
 add-j c = let b = bounds (c .before .before .before .before .before .before .before .before .before .before .before .before .before .before .before .before .before .before .before .before .before .before .before .before .before .before .before .before .before .before .before .before .before .before .before .before .before .before .before) in omega (arith, codes-small (c .before .before .before .before .before .before .before .before .before .before .before .before .before .before .before .before .before .before .before .before .before .before .before .before .before .before .before .before .before .before .before .before .before .before .before .before .before .before .before))

@@ -13,7 +13,8 @@ use Rattle.codes.proofs.play_one.Tie as tie
 
 -- the parts that the decoded call is lent
 lent : (c : tie.After-known-told)
-    → Inside (c .before .code .given .0 .1 .0) (length (c .before .before .before .before .before .before .before .before .before .before .before .before .before .before .before .args .bytes .now))
+    → Inside (c .before .code .given .0 .1 .0)
+    (length (c .before .before .before .before .before .before .before .before .before .before .before .before .before .before .before .args .bytes .now))
     (length (c .before .before .before .before .before .before .before .before .before .before .before .before .before .before .before .args .records .now))
 lent c = decoded-inside _ _ _ _ _ _ _ _ _ (sym (c .before .before .before .decode .ensures) ∙ c .before .code .given .1)
 

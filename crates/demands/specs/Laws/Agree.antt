@@ -40,7 +40,8 @@ same-take n l l′ h s =
 
 -- ---- chains
 
-chain-same : (n : ℕ) (link link′ : List ℕ) → Same n link link′ → (a b : ℕ) (xs : List ℕ) → ((f : ℕ) → 0 < times f xs → f < n) → Chain link a xs b → Chain link′ a xs b
+chain-same : (n : ℕ) (link link′ : List ℕ) → Same n link link′ → (a b : ℕ) (xs : List ℕ) → ((f : ℕ) → 0 < times f xs → f < n) → Chain link a xs b
+    → Chain link′ a xs b
 chain-same n link link′ s a b [] below c = c
 chain-same n link link′ s a b (x ∷ xs) below c =
     (c .0, rw (s .same x (below x (omega (arith, hit-same x x refl)))) (chain-same n link link′ s (at link x) b xs (λ f h. below f (omega arith)) (c .1)))
@@ -131,7 +132,12 @@ module _ (m : State) (k k′ : Memory) (H : Holds m k) (A : Agree (m .sizes) k k
         entries = placed ram;
         links = λ a.
             let l = H .links a in
-            record { from = l .from; to = l .to; chain = chain-same (m .sizes .frames) (k .link) (k′ .link) (A .link) (l .from) (l .to) (framesOf (reverse (region m a))) (held-below a) (l .chain) };
+            record {
+              from = l .from;
+              to = l .to;
+              chain = chain-same (m .sizes .frames) (k .link) (k′ .link) (A .link) (l .from) (l .to)
+                  (framesOf (reverse (region m a))) (held-below a) (l .chain);
+            };
         pooled = pooled;
         ram-is = is;
       }

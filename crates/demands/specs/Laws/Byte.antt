@@ -37,12 +37,19 @@ module _ (n : State) (k k′ : Memory) (es : List Event) (q : Sequence n k es k�
   stored-there =
       let m = machineAt n k (s .before) in
       let c = write i (s .from) (s .values) (s .lent) in
-      let (k₁, before, later) = run-split (s .before) (wrote-event ∷ s .later) (subst (λ (xs : List Event). Run (q .started) xs k′) (s .is-history) (q .run)) in
+      let (k₁, before, later) = run-split (s .before) (wrote-event ∷ s .later)
+      (subst (λ (xs : List Event). Run (q .started) xs k′) (s .is-history) (q .run)) in
       let H = run-follows (withRam n (k .ram)) (begins-holding n k (q .started) (q .beginning)) before .holds in
       let (k₂, one) = first-step later in
       let w = wrote m i (s .from) (s .values) (s .lent) (sym (step-follows m k₁ wrote-event k₂ H one .answer-is)) in
       let b = write-stores m i (s .from) (s .values) (after m c) x (H .sound) (omega (arith, H .roomy .ram, ap length (H .ram-is))) w (s .low) (s .high) in
-      let here = subst (λ (y : Sizes). Address y i x) (sym (may-change m c (H .sound) .sizes)) (record { space = w .space; inside = omega (arith, w .fits, s .high) }) in
+      let here = subst (λ (y : Sizes). Address y i x) (sym (may-change m c (H .sound) .sizes))
+      (record { space = w .space; inside = omega (arith, w .fits, s .high) }) in
       let r = history-leaves (after m c) (calls (s .later)) i x _ (step-sound m c (H .sound)) here b (s .spared) in
-      subst (λ (y : State). There y i x v) (sym (ap (λ (xs : List Event). machineAt n k xs) (s .is-history) ∙ after-append (withRam n (k .ram)) (s .before) wrote-event (s .later)))
-      (record { here = subst (λ (y : Sizes). Address y i x) (sym (r .1)) here; stored = subst (λ (y : ℕ). Stored (afterAll (after m c) (calls (s .later))) i x y) (s .value-is) (r .0) })
+      subst (λ (y : State). There y i x v)
+      (sym (ap (λ (xs : List Event). machineAt n k xs) (s .is-history) ∙ after-append (withRam n (k .ram)) (s .before) wrote-event (s .later)))
+      (record {
+        here = subst (λ (y : Sizes). Address y i x) (sym (r .1)) here;
+        stored = subst
+            (λ (y : ℕ). Stored (afterAll (after m c) (calls (s .later))) i x y) (s .value-is) (r .0);
+      })

@@ -8,7 +8,9 @@ use native.Mathlib.Omega.{arith}
 use lib.ListN.{length, take, drop, length-set, take-append-drop}
 use lib.Seq.{length-take-le, take-length, drop-length, getD-take, set-append-left}
 use Rattle.sequence.specs.Lists.{tabulate}
-use Rattle.machine.specs.Machine.{Sizes, State, Lent, pageOfAddress, spanPages, ramAt, Call, read, write, asked, Answer, bytes, Out, tell, spanAbsence, byteIn, byteAt, readIf, storeIn, stored, withRam, storeAll, spanTouched, spanOutside, spanShort, writeIf, refusal, accepted, unless, step, answer, after}
+use Rattle.machine.specs.Machine.{Sizes, State, Lent, pageOfAddress, spanPages, ramAt, Call, read, write, asked, Answer, bytes, Out, tell, spanAbsence}
+use Rattle.machine.specs.Machine.{byteIn, byteAt, readIf, storeIn, stored, withRam, storeAll, spanTouched, spanOutside, spanShort, writeIf, refusal, accepted}
+use Rattle.machine.specs.Machine.{unless, step, answer, after}
 use Rattle.machine.specs.Claims.{Sound}
 use Rattle.machine.specs.Laws.Steps.{sound-all-touched}
 use Rattle.machine.specs.Laws.Stays.{grown-all-touched}
@@ -58,7 +60,8 @@ module _ (m : State) (s : Sound m) where
       go none e = (refl, refl)
       go (some p) e = (set-append-left part rest p v (omega (arith, ram-below m s i x p e)), length-set part p v)
 
-  stored-front : (i x : ℕ) (vs part rest : List ℕ) → m .sizes .frames * m .sizes .page ≤ length part → stored m i x vs (part ++ rest) ≡ stored m i x vs part ++ rest
+  stored-front : (i x : ℕ) (vs part rest : List ℕ) → m .sizes .frames * m .sizes .page ≤ length part
+      → stored m i x vs (part ++ rest) ≡ stored m i x vs part ++ rest
   unfolding stored
   stored-front i x [] part rest h = refl
   stored-front i x (v ∷ vs) part rest h =
@@ -89,7 +92,8 @@ module _ (m : State) (s : Sound m) (n : ℕ) (enough : m .sizes .frames * m .siz
     unfolding accepted
     same-read count l =
         same-checked (read i x count l)
-        (told _ _ (ap (readIf (cut n m) i x count) (absence-any (take n (m .ram)) m _ (spanPages (m .sizes) x count)) ∙ read-front count (spanAbsence m i x count)))
+        (told _ _ (ap (readIf (cut n m) i x count) (absence-any (take n (m .ram)) m _ (spanPages (m .sizes) x count)) ∙ read-front count
+        (spanAbsence m i x count)))
 
     module _ (vs : List ℕ) (fits : n ≤ length (m .ram)) where
       written-front : (a b : Bool) → SameOut n m (writeIf (cut n m) i x vs a b) (writeIf m i x vs a b)

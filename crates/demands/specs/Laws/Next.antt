@@ -7,7 +7,9 @@ use native.Mathlib.Omega.{arith}
 use borrow.Author.Tests.{le-leb, lt-ltb, ltb-true}
 use lib.Dec.{ltb}
 use lib.ListN.{length}
-use Rattle.machine.specs.Machine.{Sizes, sizesOk, spaceBytes, pageOfAddress, State, Uses, uses, enough, Call, free, translate, read, list, asked, Page, outside, unmapped, mapped, pageOf, ramIn, ramAt, translatePage, Answer, at, frames, regions, refused, Out, recordsOf, listIf, accepted, answer}
+use Rattle.machine.specs.Machine.{Sizes, sizesOk, spaceBytes, pageOfAddress, State, Uses, uses, enough, Call, free, translate, read, list, asked, Page}
+use Rattle.machine.specs.Machine.{outside, unmapped, mapped, pageOf, ramIn, ramAt, translatePage, Answer, at, frames, regions, refused, Out, recordsOf}
+use Rattle.machine.specs.Machine.{listIf, accepted, answer}
 use Rattle.machine.specs.Claims.{Address}
 use Rattle.machine.specs.Laws.Sizes.{passed}
 use Rattle.machine.specs.Laws.Holders.{backed}
@@ -81,7 +83,8 @@ module _ (m : State) (k : Memory) (H : Holds m k) where
 
   -- ---- list
 
-  pub list-next : (i room : ℕ) → i < m .sizes .spaces → length (recordsOf m i) ≤ room → (a : Answer) (k″ : Memory) → Did (list i room) k a k″ → a ≡ regions (recordsOf m i)
+  pub list-next : (i room : ℕ) → i < m .sizes .spaces → length (recordsOf m i) ≤ room → (a : Answer) (k″ : Memory) → Did (list i room) k a k″
+      → a ≡ regions (recordsOf m i)
   unfolding accepted asked
   list-next i room h l a k″ d =
       d .honest m H tt .answer-is

@@ -56,8 +56,11 @@ module _ (k : Memory) (n : Lent) (a : Answer) (part : Memory) where
       let b = subst (λ (o : Option State). BeginsBy o (asked (sizesOf (k .head)) c) (front n k) a part) is (t .begins) e in
       let room = subst (λ (o : Option State). RoomBy o k) is (t .room (b .0)) in
       let sizes-are = ap (sizesBy (sizesOf (k .head))) is in
-      let r = rw sizes-are at (roomy-part (sizesOf (k .head)) c e t (rw sizes-are room)) in
-      (b .0, subst (λ (ram : List ℕ). Holds (withRam s ram) (rejoined n part k)) (take-append-drop (n .ram) (k .ram)) (rejoined-holds _ n k part (k .ram) refl (b .1 r)))
+      let r = rw sizes-are at (roomy-part (sizesOf (k .head)) c e t (rw sizes-are room)) in (
+        b .0,
+        subst (λ (ram : List ℕ). Holds (withRam s ram) (rejoined n part k)) (take-append-drop (n .ram) (k .ram))
+            (rejoined-holds _ n k part (k .ram) refl (b .1 r)),
+      )
 
   module _ (m : State) (H : Holds m k) where
     abbrev Beside : Call → Type 0
@@ -77,7 +80,9 @@ module _ (k : Memory) (n : Lent) (a : Answer) (part : Memory) where
         let b = begun-holds s c is (ap (λ (y : Sizes). asked y c) (H .sizes-are) ∙ e) t in
         record {
           answer-is = b .0 ∙ sym (ap (λ (x : Out). x .answer) o);
-          holds = subst (λ (x : Out). Holds (x .after) (rejoined n part k)) (sym o) (subst (λ (ram : List ℕ). Holds (withRam s ram) (rejoined n part k)) (H .ram-is) (b .1));
+          holds =
+              subst (λ (x : Out). Holds (x .after) (rejoined n part k)) (sym o)
+              (subst (λ (ram : List ℕ). Holds (withRam s ram) (rejoined n part k)) (H .ram-is) (b .1));
         }
 
     -- an honest part follows the machine whose RAM is cut alike

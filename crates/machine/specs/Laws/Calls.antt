@@ -11,16 +11,19 @@ use lib.ListN.{length}
 use Rattle.machine.specs.declared.PageCall.{PageCall}
 use Rattle.machine.specs.declared.PageCall.the-variants.{Mark, Drop, Touch, Look, Release}
 use Rattle.machine.specs.Machine.{Sizes, places, placeOf, sizesOk, spaceBytes, State, Lent, isStart, startOf, wordsAt, pageOf, enough}
-use Rattle.machine.specs.Machine.{Call, start, page, free, translate, read, write, list, uses, facts, pageFacts, everyBuffer, lends, lentOk, refusal, asked}
+use Rattle.machine.specs.Machine.{Call, start, page, free, translate, read, write, list, uses, facts, pageFacts, everyBuffer, lends, lentOk, refusal}
+use Rattle.machine.specs.Machine.{asked}
 use Rattle.machine.specs.Machine.{Kind, ended, touched, looked, released, counted, translated, copied, listed, refusalOf}
-use Rattle.machine.specs.Machine.{Answer, done, Out, tell, begun, withRam, spanOutside, spanShort, acceptedAt, accepted, unless, step, answer, after, afterAll}
+use Rattle.machine.specs.Machine.{Answer, done, Out, tell, begun, withRam, spanOutside, spanShort, acceptedAt, accepted, unless, step, answer, after}
+use Rattle.machine.specs.Machine.{afterAll}
 use Rattle.machine.specs.Claims.{Sound, Address, isDone, isRefused, aims, ends, Spared, Stored, MayChangeBy, MayChange}
 use Rattle.machine.specs.Laws.Sizes.{both, passed}
 use Rattle.machine.specs.Laws.Kept.{sound-begun}
 use Rattle.machine.specs.Laws.Steps.{sound-marked-or-not, sound-dropped-or-not, sound-touched, sound-released-or-not, sound-written, page-place}
 use Rattle.machine.specs.Laws.Changes.{KeptIfRefused, mark-kept, drop-kept, touch-kept, release-kept, write-kept}
 use Rattle.machine.specs.Laws.Changes.{mark-start, drop-start, touch-region, release-region, write-span, may-stay}
-use Rattle.machine.specs.Laws.Bytes.{Leaves, leaves-told, leaves-marked-or-not, leaves-dropped-or-not, leaves-touched, leaves-released-or-not, leaves-written}
+use Rattle.machine.specs.Laws.Bytes.{Leaves, leaves-told, leaves-marked-or-not, leaves-dropped-or-not, leaves-touched, leaves-released-or-not}
+use Rattle.machine.specs.Laws.Bytes.{leaves-written}
 use Rattle.machine.specs.Laws.Unseen.{Alike, told-alike, mark-alike, drop-alike, touch-alike, release-alike, read-alike, write-alike, list-alike}
 
 pub record Lawful (m : State) (c : Call) : Type 0 where
@@ -28,7 +31,8 @@ pub record Lawful (m : State) (c : Call) : Type 0 where
   pub keeps : KeptIfRefused m (accepted m c)
   pub changes : Sound m → MayChangeBy m (facts c .change) (accepted m c .after)
   -- a call that doesn't end the byte v at address x of space i leaves it
-  pub leaves : (i x v : ℕ) → Sound m → Address (m .sizes) i x → Stored m i x v → isDone (accepted m c .answer) && aims m i x c ≡ false → Leaves m i x v (accepted m c)
+  pub leaves : (i x v : ℕ) → Sound m → Address (m .sizes) i x → Stored m i x v → isDone (accepted m c .answer) && aims m i x c ≡ false
+      → Leaves m i x v (accepted m c)
   -- with another RAM
   pub alike : (ram : List ℕ) → Alike (accepted (withRam m ram) c) (accepted m c)
 

@@ -8,9 +8,11 @@ use lib.Dec.{leb}
 use lib.ListN.{length, replicate}
 use Rattle.sequence.specs.Lists.{tabulate, length-tabulate}
 use Rattle.machine.specs.declared.Region.{Region}
-use Rattle.machine.specs.Machine.{State, Pair, Page, outside, unmapped, mapped, pageOf, wordsAt, placeOf, pageOfAddress, spanPages, ramAt, isStart, region}
+use Rattle.machine.specs.Machine.{State, Pair, Page, outside, unmapped, mapped, pageOf, wordsAt, placeOf, pageOfAddress, spanPages, ramAt, isStart}
+use Rattle.machine.specs.Machine.{region}
 use Rattle.machine.specs.Machine.{Answer, bytes, Out, tell, unlessResident, markAt, dropAt, releaseAt, touchNew, touchPage, touchAt, touchAll}
-use Rattle.machine.specs.Machine.{absence, orElse, firstAbsence, spanAbsence, byteAt, readIf, isOutside, anyOutside, isUnmapped, countAbsent, storeIn, stored}
+use Rattle.machine.specs.Machine.{absence, orElse, firstAbsence, spanAbsence, byteAt, readIf, isOutside, anyOutside, isUnmapped, countAbsent, storeIn}
+use Rattle.machine.specs.Machine.{stored}
 use Rattle.machine.specs.Machine.{withRam, storeAll, spanTouched, spanOutside, spanShort, writeIf, writeAt, untilStart, records, recordsOf, listIf}
 use Rattle.machine.specs.Claims.{blind}
 
@@ -58,7 +60,8 @@ module _ (ram : List ℕ) where
   records-any m lo b (suc n) =
       let p = lo + b in
       ap
-      (λ (rest : List Region). cond (isStart m p) (record { start = b; length = suc (untilStart (isStart m) (suc p) n); resident = length (region m p) } ∷ rest) rest)
+      (λ (rest : List Region). cond (isStart m p)
+      (record { start = b; length = suc (untilStart (isStart m) (suc p) n); resident = length (region m p) } ∷ rest) rest)
       (records-any m lo (suc b) n)
 
 -- ---- each call
@@ -115,7 +118,8 @@ module _ (m : State) (ram : List ℕ) where
       record { answers = refl; states = e ∙ ap (withRam m₁) (sym (ap (λ (y : State). y .ram) e)) }
 
   -- the pages of a span are found alike
-  pub read-alike : (i x n : ℕ) → Alike (tell (withRam m ram) (readIf (withRam m ram) i x n (spanAbsence (withRam m ram) i x n))) (tell m (readIf m i x n (spanAbsence m i x n)))
+  pub read-alike : (i x n : ℕ)
+      → Alike (tell (withRam m ram) (readIf (withRam m ram) i x n (spanAbsence (withRam m ram) i x n))) (tell m (readIf m i x n (spanAbsence m i x n)))
   read-alike i x n =
       told-alike
       _

@@ -5,7 +5,11 @@ use Rattle.marking.proofs.begin.Statement.{statement}
 use Rattle.marking.proofs.begin.Tie as tie
 
 returns : tie.Need-returns
-returns c = begins _ _ _ _ (c .before .before .before .before .before .before .before .prepare .result) _ _ _ ((c .before .before .before .before .before .before .before .before .before .all-places) .ensures) ((c .before .before .before .before .before .before .before .prepare) .ensures) ((c .before .before .before .clear-counts) .ensures) ((c .changed) .ensures)
+returns c =
+    begins _ _ _ _ (c .before .before .before .before .before .before .before .prepare .result) _ _ _
+    ((c .before .before .before .before .before .before .before .before .before .all-places) .ensures)
+    ((c .before .before .before .before .before .before .before .prepare) .ensures) ((c .before .before .before .clear-counts) .ensures)
+    ((c .changed) .ensures)
 
 pub begin-spec : {M : Type 1} → statement M
 begin-spec =

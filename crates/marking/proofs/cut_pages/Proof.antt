@@ -6,13 +6,23 @@ use Rattle.marking.proofs.cut_pages.Statement.{statement}
 use Rattle.marking.proofs.cut_pages.Tie as tie
 
 mul-result : tie.Need-mul-result
-mul-result c = omega (arith, found-low _ _ _ _ ((c .before .before .before .before .find) .ensures) ((c .before .before .before .before .before .before .before .pre) .check-passes) _ _ ((c .before .before .a) .given .1))
+mul-result c = omega (
+  arith,
+  found-low _ _ _ _ ((c .before .before .before .before .find) .ensures)
+      ((c .before .before .before .before .before .before .before .pre) .check-passes) _ _ ((c .before .before .a) .given .1),
+)
 
 shared-slice-read-result : tie.Need-shared-slice-read-result
-shared-slice-read-result c = omega (arith, found-low _ _ _ _ ((c .before .before .before .before .before .find) .ensures) ((c .before .before .before .before .before .before .before .before .pre) .check-passes) _ _ ((c .before .before .before .a) .given .1))
+shared-slice-read-result c = omega (
+  arith,
+  found-low _ _ _ _ ((c .before .before .before .before .before .find) .ensures)
+      ((c .before .before .before .before .before .before .before .before .pre) .check-passes) _ _ ((c .before .before .before .a) .given .1),
+)
 
 returns : tie.Need-returns
-returns c = cut-in-space _ _ _ _ ((c .before .before .before .before .before .find) .ensures) _ _ _ _ ((c .before .before .before .a) .given .1) ((c .before .if1) .taken)
+returns c =
+    cut-in-space _ _ _ _ ((c .before .before .before .before .before .find) .ensures) _ _ _ _ ((c .before .before .before .a) .given .1)
+    ((c .before .if1) .taken)
 
 returns-2 : tie.Need-returns-2
 returns-2 c = cut-in-lower-space _ _ _ _ ((c .before .before .before .before .find) .ensures) _ _ _ _ ((c .before .before .a) .given .1) ((c .if1) .left)

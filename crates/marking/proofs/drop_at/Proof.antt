@@ -10,7 +10,8 @@ returns c = drop-full _ _ _ _ _ ((c .before .before .before .before .is-set) .en
 returns-2 : tie.Need-returns-2
 returns-2 c =
     let passed = c .before .before .before .before .before in
-    drop-put _ _ _ _ _ (passed .before .before .before .before .is-set .ensures) (passed .before .before .enum-told .given .1) (c .before .before .before .clear .result) _ _ (passed .if1 .left) (c .before .before .before .clear .ensures) (c .changed .ensures)
+    drop-put _ _ _ _ _ (passed .before .before .before .before .is-set .ensures) (passed .before .before .enum-told .given .1)
+    (c .before .before .before .clear .result) _ _ (passed .if1 .left) (c .before .before .before .clear .ensures) (c .changed .ensures)
 
 returns-3 : tie.Need-returns-3
 returns-3 c = drop-absent _ _ _ _ _ ((c .before .before .is-set) .ensures) ((c .enum-told2) .given .1)

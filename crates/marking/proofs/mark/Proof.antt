@@ -17,12 +17,17 @@ place-requires-2 : tie.Need-place-requires-2
 place-requires-2 c κs = page-pass _ _ _ _ _ ((c .before .before .before .before .check) .ensures) ((c .before .before .before .if1) .left)
 
 mark-at-requires : tie.Need-mark-at-requires
-mark-at-requires c κs = searchable _ _ _ _ _ ((c .before .before .before .before .before .check) .ensures) _ _ ((c .before .before .before .before .before .before .before .lent) .ensures) ((c .before .before .before .before .if1) .left) _ _ ((c .before .before .before .all-places) .ensures) ((c .place2) .ensures)
+mark-at-requires c κs =
+    searchable _ _ _ _ _ ((c .before .before .before .before .before .check) .ensures) _ _
+    ((c .before .before .before .before .before .before .before .lent) .ensures) ((c .before .before .before .before .if1) .left) _ _
+    ((c .before .before .before .all-places) .ensures) ((c .place2) .ensures)
 
 returns-2 : tie.Need-returns-2
 returns-2 c =
     let passed = c .before .before .before .before .before .before .before in
-    marked _ _ _ _ _ (passed .before .check .ensures) _ _ (passed .before .before .before .lent .ensures) (passed .if1 .left) _ _ (c .before .before .before .before .before .before .all-places .ensures) (c .before .before .before .place2 .ensures) _ _ _ (c .before .before .before .before .place .ensures) (c .before .before .mark-at .ensures)
+    marked _ _ _ _ _ (passed .before .check .ensures) _ _ (passed .before .before .before .lent .ensures) (passed .if1 .left) _ _
+    (c .before .before .before .before .before .before .all-places .ensures) (c .before .before .before .place2 .ensures) _ _ _
+    (c .before .before .before .before .place .ensures) (c .before .before .mark-at .ensures)
 
 pub mark-spec : {M : Type 1} → statement M
 mark-spec =

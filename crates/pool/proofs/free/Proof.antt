@@ -14,13 +14,23 @@ returns-2 : tie.Need-returns-2
 returns-2 c = too-many _ (held ((c .before .before .before .sizes-ok) .ensures) ((c .before .before .if1) .left)) ((c .if2) .taken)
 
 returns-3 : tie.Need-returns-3
-returns-3 c = too-fresh _ (held ((c .before .before .before .before .before .sizes-ok) .ensures) ((c .before .before .before .before .if1) .left)) ((c .before .before .if2) .left) ((c .if3) .taken)
+returns-3 c =
+    too-fresh _ (held ((c .before .before .before .before .before .sizes-ok) .ensures) ((c .before .before .before .before .if1) .left))
+    ((c .before .before .if2) .left) ((c .if3) .taken)
 
 add-t5 : tie.Need-add-t5
-add-t5 c = omega (arith, fit _ (held ((c .before .before .before .before .before .before .before .sizes-ok) .ensures) ((c .before .before .before .before .before .before .if1) .left)) .few-frames)
+add-t5 c = omega (
+  arith,
+  fit _
+      (held ((c .before .before .before .before .before .before .before .sizes-ok) .ensures)
+      ((c .before .before .before .before .before .before .if1) .left)) .few-frames,
+)
 
 returns-4 : tie.Need-returns-4
-returns-4 c = counted _ (held ((c .before .before .before .before .before .before .before .sizes-ok) .ensures) ((c .before .before .before .before .before .before .if1) .left)) ((c .before .before .before .before .if2) .left) ((c .before .before .if3) .left)
+returns-4 c =
+    counted _
+    (held ((c .before .before .before .before .before .before .before .sizes-ok) .ensures) ((c .before .before .before .before .before .before .if1) .left))
+    ((c .before .before .before .before .if2) .left) ((c .before .before .if3) .left)
 
 pub free-spec : {M : Type 1} → statement M
 free-spec = tie.close (tie.spec (λ c κs. search needs) returns returns-2 returns-3 add-t5 returns-4)

@@ -19,7 +19,9 @@ mul-result : tie.Need-mul-result
 mul-result c = omega (arith, top-known _ _ _ (c .before .before .if1 .left) _ (c .before .before .before .before .before .pre) .2, (c .wide) .ensures)
 
 shared-slice-read-result : tie.Need-shared-slice-read-result
-shared-slice-read-result c = omega (arith, top-known _ _ _ (c .before .before .before .if1 .left) _ (c .before .before .before .before .before .before .pre) .2, (c .before .wide) .ensures)
+shared-slice-read-result c =
+    omega
+    (arith, top-known _ _ _ (c .before .before .before .if1 .left) _ (c .before .before .before .before .before .before .pre) .2, (c .before .wide) .ensures)
 
 returns-2 : tie.Need-returns-2
 returns-2 c = newest-is _ _ _ (c .before .before .before .if1 .left) _ _ _ (c .before .wide .ensures) refl

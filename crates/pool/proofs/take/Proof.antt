@@ -12,7 +12,8 @@ returns : tie.Need-returns
 returns c = taken-fresh _ _ (c .before .if1 .taken)
 
 shared-slice-read-first : tie.Need-shared-slice-read-first
-shared-slice-read-first c = omega (arith, first-known _ _ (c .before .before .if1 .left) (c .before .before .before .before .before .before .pre), (c .before .wide) .ensures)
+shared-slice-read-first c =
+    omega (arith, first-known _ _ (c .before .before .if1 .left) (c .before .before .before .before .before .before .pre), (c .before .wide) .ensures)
 
 returns-2 : tie.Need-returns-2
 returns-2 c = rw (c .before .before .wide .ensures) (taken-linked _ _ (c .before .before .before .if1 .left))

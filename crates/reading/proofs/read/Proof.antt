@@ -92,8 +92,10 @@ returns-2 c = λ link.
     let l = c .before .before in
     let o = l .before .before in
     let e = passed o in
-    read-stopped _ _ (lent (entry (e .before)) link) _ _ (checked (e .before) link) (e .if1 .left) _ _ (o .before .before .page-of .ensures) (o .before .pages .ensures)
-    _ (o .loop .inv .from) (omega (arith, l .before .loop-test .taken)) (o .loop .inv .resident link) (l .look-checked .result) (l .look-checked .ensures link _) _
+    read-stopped _ _ (lent (entry (e .before)) link) _ _ (checked (e .before) link) (e .if1 .left) _ _ (o .before .before .page-of .ensures)
+    (o .before .pages .ensures)
+    _ (o .loop .inv .from) (omega (arith, l .before .loop-test .taken)) (o .loop .inv .resident link) (l .look-checked .result)
+    (l .look-checked .ensures link _) _
     (refused-as (l .look-checked .result) _ (c .absence .ensures) (c .before .match .keys2))
 
 add-page : tie.Need-add-page Inv-loop μ-loop
@@ -117,8 +119,10 @@ returns-3 : tie.Need-returns-3 Inv-loop μ-loop
 returns-3 c = λ link.
     let o = c .before .before .before .before .before in
     let e = passed o in
-    read-copied _ _ (lent (entry (e .before)) link) _ _ (checked (e .before) link) (e .if1 .left) _ _ (o .before .before .page-of .ensures) (o .before .pages .ensures)
-    _ (omega (arith, o .loop .inv .within, c .before .before .before .before .loop-test .left)) (o .loop .inv .resident link) _ (c .before .before .copy-out .ensures link)
+    read-copied _ _ (lent (entry (e .before)) link) _ _ (checked (e .before) link) (e .if1 .left) _ _ (o .before .before .page-of .ensures)
+    (o .before .pages .ensures)
+    _ (omega (arith, o .loop .inv .within, c .before .before .before .before .loop-test .left)) (o .loop .inv .resident link) _
+    (c .before .before .copy-out .ensures link)
 
 pub read-spec : {M : Type 1} → statement M
 read-spec =

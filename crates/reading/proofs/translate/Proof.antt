@@ -28,12 +28,14 @@ entry c = c .before .before .before .before .before .before .before .before
 
 checked : (c : tie.After-check) (link ram : List ℕ)
     → c .check .result
-    ≡ checkOf (entry c .args .head) (lookLengths (lent (entry c) link ram)) (entry c .args .space) (addressInside (entry c .args .head) (entry c .args .address))
+    ≡ checkOf (entry c .args .head) (lookLengths (lent (entry c) link ram)) (entry c .args .space)
+    (addressInside (entry c .args .head) (entry c .args .address))
 checked c link ram = c .check .ensures ∙ ap (checkOf _ _ _) (c .before .address-inside .ensures)
 
 looked : (c : tie.After-look-checked) (link ram : List ℕ)
     → let k = lent (entry (c .before .before .before)) link ram in
-    Did (look (entry (c .before .before .before) .args .space) (entry (c .before .before .before) .args .address / sizesOf (k .head) .page)) k (lookedSays (c .look-checked .result)) k
+    Did (look (entry (c .before .before .before) .args .space) (entry (c .before .before .before) .args .address / sizesOf (k .head) .page)) k
+    (lookedSays (c .look-checked .result)) k
 looked c link ram = rw (← c .before .page-of .ensures) (c .look-checked .ensures link ram)
 
 returns : tie.Need-returns
@@ -46,7 +48,8 @@ cast-look-checked : tie.Need-cast-look-checked
 cast-look-checked c =
     let e = checked (c .before .before) [] [] in
     let p = c .before .if1 .left in
-    omega (arith, c .page-of .ensures, page-fits (entry (c .before .before) .args .head) _ (address-ready _ _ _ _ _ e p .sizes-ok) (address-page _ _ _ _ _ e p))
+    omega
+    (arith, c .page-of .ensures, page-fits (entry (c .before .before) .args .head) _ (address-ready _ _ _ _ _ e p .sizes-ok) (address-page _ _ _ _ _ e p))
 
 look-checked-requires : tie.Need-look-checked-requires
 look-checked-requires c κs =

@@ -19,12 +19,14 @@ cuttable-requires c κs =
 returns-2 : tie.Need-returns-2
 returns-2 c =
     let read = c .before .before .before .before .before .before .before .before .args in
-    cut-yes (read .h) (read .count .now) (read .table .now) (read .stack .now) (read .t) (read .a) _ (c .before .before .before .wide .ensures) (c .before .before .if1 .left) _ (c .before .cuttable .ensures) (c .if2 .taken)
+    cut-yes (read .h) (read .count .now) (read .table .now) (read .stack .now) (read .t) (read .a) _ (c .before .before .before .wide .ensures)
+    (c .before .before .if1 .left) _ (c .before .cuttable .ensures) (c .if2 .taken)
 
 returns-3 : tie.Need-returns-3
 returns-3 c =
     let read = c .before .before .before .before .before .before .before .before .args in
-    cut-no (read .h) (read .count .now) (read .table .now) (read .stack .now) (read .t) (read .a) _ (c .before .before .before .wide .ensures) (c .before .before .if1 .left) _ (c .before .cuttable .ensures) (c .if2 .left)
+    cut-no (read .h) (read .count .now) (read .table .now) (read .stack .now) (read .t) (read .a) _ (c .before .before .before .wide .ensures)
+    (c .before .before .if1 .left) _ (c .before .cuttable .ensures) (c .if2 .left)
 
 pub cut-at-spec : {M : Type 1} → statement M
 cut-at-spec =

@@ -22,7 +22,8 @@ returns-5 c =
     let far = here .before .before .before in
     let farther = far .before .before .before in
     let farthest = farther .before .before .before in
-    cuttable-as _ _ _ _ _ _ _ (farther .before .wide .ensures) _ (here .before .wide2 .ensures) (farthest .if1 .left) (farther .if2 .left) (far .if3 .left) (here .if4 .left) _ _ (c .before .wide3 .ensures) (c .wide4 .ensures)
+    cuttable-as _ _ _ _ _ _ _ (farther .before .wide .ensures) _ (here .before .wide2 .ensures) (farthest .if1 .left) (farther .if2 .left) (far .if3 .left)
+    (here .if4 .left) _ _ (c .before .wide3 .ensures) (c .wide4 .ensures)
 
 pub cuttable-spec : {M : Type 1} → statement M
 cuttable-spec =

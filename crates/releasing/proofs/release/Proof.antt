@@ -5,13 +5,16 @@ use Rattle.releasing.proofs.release.Statement.{statement}
 use Rattle.releasing.proofs.release.Tie as tie
 
 splice-requires : tie.Need-splice-requires
-splice-requires c κs = splice-ready _ _ _ _ _ _ _ _ _ _ (c .before .before .before .before .before .cut-of .ensures) (c .before .before .before .todo .given .1)
+splice-requires c κs =
+    splice-ready _ _ _ _ _ _ _ _ _ _ (c .before .before .before .before .before .cut-of .ensures) (c .before .before .before .todo .given .1)
 
 returns : tie.Need-returns
 returns c = λ helper cache ram. did-nothing _ _ _ _ _ _ _ _ _ (c .before .before .cut-of .ensures) helper cache ram (c .enum-told .given .1)
 
 returns-2 : tie.Need-returns-2
-returns-2 c = λ helper cache ram. did-splice _ _ _ _ _ _ _ _ _ (c .before .before .before .before .before .before .before .before .before .before .before .cut-of .ensures) helper cache ram _ _ _ _ (c .before .before .before .before .before .before .before .before .before .todo .given .1) (c .before .before .before .before .before .splice .ensures)
+returns-2 c = λ helper cache ram. did-splice _ _ _ _ _ _ _ _ _
+    (c .before .before .before .before .before .before .before .before .before .before .before .cut-of .ensures) helper cache ram _ _ _ _
+    (c .before .before .before .before .before .before .before .before .before .todo .given .1) (c .before .before .before .before .before .splice .ensures)
 
 returns-3 : tie.Need-returns-3
 returns-3 c = λ helper cache ram. did-refuse _ _ _ _ _ _ _ _ _ (c .before .before .before .cut-of .ensures) helper cache ram _ (c .before .todo2 .given .1)

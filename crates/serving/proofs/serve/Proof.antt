@@ -30,7 +30,8 @@ returns-4 c =
 returns-5 : tie.Need-returns-5
 returns-5 c =
     let t = c .before .before .before in
-    rw (t .before .before .before .before .before .before .before .before .before .before .request4 .given .1) (read-serves _ _ _ _ _ _ _ _ (t .read .ensures _) (c .of-copied .ensures))
+    rw (t .before .before .before .before .before .before .before .before .before .before .request4 .given .1)
+    (read-serves _ _ _ _ _ _ _ _ (t .read .ensures _) (c .of-copied .ensures))
 
 returns-6 : tie.Need-returns-6
 returns-6 c =
@@ -41,7 +42,8 @@ returns-6 c =
 returns-7 : tie.Need-returns-7
 returns-7 c =
     let t = c .before .before .before in
-    rw (t .before .before .before .before .before .request6 .given .1) (list-serves _ _ _ _ _ _ _ (omega arith) (t .list .ensures _ _ _ _ _ _) (c .of-listed .ensures))
+    rw (t .before .before .before .before .before .request6 .given .1)
+    (list-serves _ _ _ _ _ _ _ (omega arith) (t .list .ensures _ _ _ _ _ _) (c .of-listed .ensures))
 
 pub serve-spec : {M : Type 1} → statement M
 serve-spec =

@@ -8,12 +8,17 @@ use Rattle.session.proofs.answer_line.Statement.{statement}
 use Rattle.session.proofs.answer_line.Tie as tie
 
 returns : tie.Need-returns
-returns c = bad-answered _ _ _ _ _ _ _ _ _ (sym (c .before .before .before .before .before .before .parse .ensures) ∙ c .before .before .before .before .enum-told .given .1) refl (c .before .before .say-bad-line .ensures)
+returns c =
+    bad-answered _ _ _ _ _ _ _ _ _
+    (sym (c .before .before .before .before .before .before .parse .ensures) ∙ c .before .before .before .before .enum-told .given .1) refl
+    (c .before .before .say-bad-line .ensures)
 
 returns-2 : tie.Need-returns-2
 returns-2 c =
     let known = c .before .before .before .before .before .before .before .before .before in
-    beyond-answered _ _ _ _ _ _ _ _ _ _ _ (sym (known .before .before .parse .ensures) ∙ known .said .given .1) (sym (c .before .before .before .before .before .before .before .is-beyond .ensures) ∙ c .before .before .before .before .before .before .if1 .taken) refl (c .before .before .say .ensures)
+    beyond-answered _ _ _ _ _ _ _ _ _ _ _ (sym (known .before .before .parse .ensures) ∙ known .said .given .1)
+    (sym (c .before .before .before .before .before .before .before .is-beyond .ensures) ∙ c .before .before .before .before .before .before .if1 .taken) refl
+    (c .before .before .say .ensures)
 
 returns-3 : tie.Need-returns-3
 returns-3 c =
@@ -21,7 +26,8 @@ returns-3 c =
     short-answered _ _ _ _ _ _ _ _ _ _ _ (sym (known .before .before .parse .ensures) ∙ known .said .given .1) (c .if2 .taken)
 
 slice-aggregate-answer-call : tie.Need-slice-aggregate-answer-call
-slice-aggregate-answer-call c = sym (length-take-le _ _ (omega (arith, c .before .before .before .before .before .before .if2 .left, c .before .before .before .buffer .given)))
+slice-aggregate-answer-call c =
+    sym (length-take-le _ _ (omega (arith, c .before .before .before .before .before .before .if2 .left, c .before .before .before .buffer .given)))
 
 same-length-6 : tie.Need-same-length-6
 same-length-6 c =

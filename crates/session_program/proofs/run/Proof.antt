@@ -4,11 +4,13 @@ use Rattle.session_program.proofs.run.Statement.{statement}
 use Rattle.session_program.proofs.run.Tie as tie
 
 abbrev Inv-loop : tie.InvT-loop
-Inv-loop input₀ out₀ buffer₀ records₀ index₀ count₀ table₀ helper₀ stack₀ cache₀ link₀ ram₀ head₀ kept₀ is-long₀ turns₀ input out buffer records index count table helper stack cache link ram head kept is-long turns =
+Inv-loop input₀ out₀ buffer₀ records₀ index₀ count₀ table₀ helper₀ stack₀ cache₀ link₀ ram₀ head₀ kept₀ is-long₀ turns₀ input out buffer records index count
+    table helper stack cache link ram head kept is-long turns =
     Unit {0}
 
 abbrev μ-loop : tie.MeasureT-loop
-μ-loop input₀ out₀ buffer₀ records₀ index₀ count₀ table₀ helper₀ stack₀ cache₀ link₀ ram₀ head₀ kept₀ is-long₀ turns₀ input out buffer records index count table helper stack cache link ram head kept is-long turns =
+μ-loop input₀ out₀ buffer₀ records₀ index₀ count₀ table₀ helper₀ stack₀ cache₀ link₀ ram₀ head₀ kept₀ is-long₀ turns₀ input out buffer records index count
+    table helper stack cache link ram head kept is-long turns =
     turns
 
 turns-left-requires : tie.Need-turns-left-requires Inv-loop μ-loop

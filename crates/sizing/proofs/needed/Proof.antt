@@ -10,7 +10,8 @@ returns : tie.Need-returns
 returns c = c .no-sizes .ensures ∙ no-page-size _ _ _ _ _ (c .before .before .before .of .ensures) _ (c .before .enum-told .given .1)
 
 returns-2 : tie.Need-returns-2
-returns-2 c = c .no-sizes2 .ensures ∙ too-large _ _ _ _ _ (c .before .before .before .before .before .before .of .ensures) _ (c .before .before .before .before .size .given .1) (failed (c .before .before .sizes-ok .ensures) (c .before .if1 .taken))
+returns-2 c = c .no-sizes2 .ensures ∙ too-large _ _ _ _ _ (c .before .before .before .before .before .before .of .ensures) _
+    (c .before .before .before .before .size .given .1) (failed (c .before .before .sizes-ok .ensures) (c .before .if1 .taken))
 
 all-places-requires : tie.Need-all-places-requires
 all-places-requires c κs = held (c .before .sizes-ok .ensures) (c .if1 .left)
@@ -25,7 +26,8 @@ returns-3 : tie.Need-returns-3
 returns-3 c =
     let ok = held (c .before .before .before .before .before .sizes-ok .ensures) (c .before .before .before .before .if1 .left) in
     rw (c .ram-bytes .ensures, c .before .wide .ensures, c .before .before .index-words .ensures, c .before .before .before .all-places .ensures)
-    (within-limits _ _ _ _ _ (c .before .before .before .before .before .before .before .before .before .of .ensures) _ (c .before .before .before .before .before .before .before .size .given .1) ok)
+    (within-limits _ _ _ _ _ (c .before .before .before .before .before .before .before .before .before .of .ensures) _
+    (c .before .before .before .before .before .before .before .size .given .1) ok)
 
 pub needed-spec : {M : Type 1} → statement M
 needed-spec =

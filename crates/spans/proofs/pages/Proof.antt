@@ -18,13 +18,21 @@ page-of-requires-2 : tie.Need-page-of-requires-2
 page-of-requires-2 c κs = (c .before .before .pre) .0
 
 sub-result : tie.Need-sub-result
-sub-result c = pages-are ((c .before .before .before .args) .h) ((c .before .before .before .pre) .0) ((c .before .before .before .args) .address) ((c .before .before .before .args) .n) _ _ ((c .before .before .if1) .left) ((c .before .page-of) .ensures) ((c .page-of2) .ensures) .0
+sub-result c =
+    pages-are ((c .before .before .before .args) .h) ((c .before .before .before .pre) .0) ((c .before .before .before .args) .address)
+    ((c .before .before .before .args) .n) _ _ ((c .before .before .if1) .left) ((c .before .page-of) .ensures) ((c .page-of2) .ensures) .0
 
 add-result : tie.Need-add-result
-add-result c = omega (arith, page-low ((c .before .before .before .args) .h) ((c .before .before .before .pre) .0) ((c .before .before .before .args) .address) ((c .before .before .before .args) .n) _ ((c .before .page-of) .ensures) ((c .before .before .before .pre) .1))
+add-result c = omega (
+  arith,
+  page-low ((c .before .before .before .args) .h) ((c .before .before .before .pre) .0) ((c .before .before .before .args) .address)
+      ((c .before .before .before .args) .n) _ ((c .before .page-of) .ensures) ((c .before .before .before .pre) .1),
+)
 
 returns-2 : tie.Need-returns-2
-returns-2 c = pages-are ((c .before .before .before .args) .h) ((c .before .before .before .pre) .0) ((c .before .before .before .args) .address) ((c .before .before .before .args) .n) _ _ ((c .before .before .if1) .left) ((c .before .page-of) .ensures) ((c .page-of2) .ensures) .1
+returns-2 c =
+    pages-are ((c .before .before .before .args) .h) ((c .before .before .before .pre) .0) ((c .before .before .before .args) .address)
+    ((c .before .before .before .args) .n) _ _ ((c .before .before .if1) .left) ((c .before .page-of) .ensures) ((c .page-of2) .ensures) .1
 
 pub pages-spec : {M : Type 1} → statement M
 pages-spec =

@@ -10,13 +10,20 @@ shl-whole : tie.Need-shl-whole
 shl-whole c = omega (arith, shift-fits ((c .before .before .args) .h) (c .before .before .pre))
 
 sub-whole : tie.Need-sub-whole
-sub-whole c = omega (arith, page-shifted ((c .before .before .before .args) .h) (c .before .before .before .pre), offset-low ((c .before .before .before .args) .h) (c .before .before .before .pre) _ _ ((c .offset) .ensures))
+sub-whole c = omega (
+  arith,
+  page-shifted ((c .before .before .before .args) .h) (c .before .before .before .pre),
+  offset-low
+      ((c .before .before .before .args) .h) (c .before .before .before .pre) _ _ ((c .offset) .ensures),
+)
 
 returns : tie.Need-returns
-returns c = part-left ((c .before .before .before .before .args) .h) (c .before .before .before .before .pre) _ _ _ ((c .before .offset) .ensures) ((c .if1) .taken)
+returns c =
+    part-left ((c .before .before .before .before .args) .h) (c .before .before .before .before .pre) _ _ _ ((c .before .offset) .ensures) ((c .if1) .taken)
 
 returns-2 : tie.Need-returns-2
-returns-2 c = part-whole ((c .before .before .before .before .args) .h) (c .before .before .before .before .pre) _ _ _ ((c .before .offset) .ensures) ((c .if1) .left)
+returns-2 c =
+    part-whole ((c .before .before .before .before .args) .h) (c .before .before .before .before .pre) _ _ _ ((c .before .offset) .ensures) ((c .if1) .left)
 
 pub part-spec : {M : Type 1} → statement M
 part-spec = tie.close (tie.spec (λ c. search needs) shl-whole (λ c κs. search needs) sub-whole returns returns-2)

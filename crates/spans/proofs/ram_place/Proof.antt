@@ -14,12 +14,23 @@ shl-result c = omega (arith, shift-fits ((c .before .before .before .args) .h) (
 add-result : tie.Need-add-result
 add-result c =
     let here = c .before .before in
-    omega (arith, frame-shifted ((here .before .before .args) .h) (here .before .before .pre) ((here .before .before .args) .frame) _ ((here .before .before .fits) .frame .fits) ((here .wide) .ensures), frame-small ((here .before .before .args) .h) (here .before .before .pre) ((here .before .before .args) .frame) ((here .before .before .fits) .frame .fits), offset-low ((here .before .before .args) .h) (here .before .before .pre) _ _ ((c .offset) .ensures), page-small ((here .before .before .args) .h) (here .before .before .pre))
+    omega (
+      arith,
+      frame-shifted ((here .before .before .args) .h) (here .before .before .pre) ((here .before .before .args) .frame) _
+          ((here .before .before .fits) .frame .fits) ((here .wide) .ensures),
+      frame-small ((here .before .before .args) .h) (here .before .before .pre)
+          ((here .before .before .args) .frame) ((here .before .before .fits) .frame .fits),
+      offset-low ((here .before .before .args) .h)
+          (here .before .before .pre) _ _ ((c .offset) .ensures),
+      page-small ((here .before .before .args) .h) (here .before .before .pre),
+    )
 
 returns : tie.Need-returns
 returns c =
     let here = c .before .before in
-    ap₂ _+_ (frame-shifted ((here .before .before .args) .h) (here .before .before .pre) ((here .before .before .args) .frame) _ ((here .before .before .fits) .frame .fits) ((here .wide) .ensures)) (offset-exact ((here .before .before .args) .h) (here .before .before .pre) _ _ ((c .offset) .ensures))
+    ap₂ _+_ (frame-shifted ((here .before .before .args) .h) (here .before .before .pre) ((here .before .before .args) .frame) _
+    ((here .before .before .fits) .frame .fits) ((here .wide) .ensures))
+    (offset-exact ((here .before .before .args) .h) (here .before .before .pre) _ _ ((c .offset) .ensures))
 
 pub ram-place-spec : {M : Type 1} → statement M
 ram-place-spec =

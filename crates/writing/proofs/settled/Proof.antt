@@ -7,7 +7,8 @@ use Rattle.writing.proofs.settled.Tie as tie
 returns : tie.Need-returns
 returns c =
     let f = c .before .before .before .before in
-    settled-short _ (f .before .before .before .before .pre) _ _ (f .free .ensures) _ _ (c .before .before .n .given .1) (f .before .before .seen2 .given .1) (c .if1 .taken)
+    settled-short _ (f .before .before .before .before .pre) _ _ (f .free .ensures) _ _ (c .before .before .n .given .1) (f .before .before .seen2 .given .1)
+    (c .if1 .taken)
 
 returns-2 : tie.Need-returns-2
 returns-2 c = settled-refused _ (c .before .before .before .pre) _ _ (c .before .seen .given .1)
@@ -15,7 +16,8 @@ returns-2 c = settled-refused _ (c .before .before .before .pre) _ _ (c .before 
 returns-3 : tie.Need-returns-3
 returns-3 c =
     let f = c .before .before .before .before in
-    settled-enough _ (f .before .before .before .before .pre) _ _ (f .free .ensures) _ _ (c .before .before .n .given .1) (f .before .before .seen2 .given .1) (c .if1 .left)
+    settled-enough _ (f .before .before .before .before .pre) _ _ (f .free .ensures) _ _ (c .before .before .n .given .1) (f .before .before .seen2 .given .1)
+    (c .if1 .left)
 
 returns-4 : tie.Need-returns-4
 returns-4 c =

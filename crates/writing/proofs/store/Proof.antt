@@ -54,8 +54,10 @@ write-part-requires : tie.Need-write-part-requires Inv-loop μ-loop
 write-part-requires c κs =
     let p = c .before .before in
     let t = p .before in
-    let s = entry t in
-    (next-part _ _ _ _ _ (storing-span _ _ _ _ _ _ _ _ _ _ _ _ _ (t .before .loop .inv) (s .pre .0)) _ _ (t .loop-test .taken) (p .part .ensures) _ refl, s .pre .1)
+    let s = entry t in (
+      next-part _ _ _ _ _ (storing-span _ _ _ _ _ _ _ _ _ _ _ _ _ (t .before .loop .inv) (s .pre .0)) _ _ (t .loop-test .taken) (p .part .ensures) _ refl,
+      s .pre .1,
+    )
 
 loop-less : tie.Need-loop-less Inv-loop μ-loop
 loop-less c =

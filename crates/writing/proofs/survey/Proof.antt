@@ -32,7 +32,8 @@ page-low c = let y = page-ready c in omega (arith, fit _ (y .sizes-ok) .few-page
 looked-up : (c : tie.After-absence Inv-loop μ-loop)
     → let l = c .before .before .before in
     let a = entry l .args in
-    LookedUp (a .head) (a .space) (a .first) (a .end) (a .index .now) (a .count .now) (a .table .now) (a .helper .now) (a .stack .now) (a .cache .now) (l .loop .page) (c .absence .result)
+    LookedUp (a .head) (a .space) (a .first) (a .end) (a .index .now) (a .count .now) (a .table .now) (a .helper .now) (a .stack .now) (a .cache .now)
+    (l .loop .page) (c .absence .result)
 looked-up c =
     let t = c .before .before in
     record {
@@ -53,7 +54,9 @@ look-checked-requires : tie.Need-look-checked-requires Inv-loop μ-loop
 look-checked-requires c κs = page-ready c
 
 returns : tie.Need-returns Inv-loop μ-loop
-returns c = counted-outside _ _ _ _ _ _ _ _ _ _ (looked-up (c .before .before)) ((c .before .before .before .before .before .loop) .inv) (c .before .if1 .taken) (c .if2 .taken)
+returns c =
+    counted-outside _ _ _ _ _ _ _ _ _ _ (looked-up (c .before .before)) ((c .before .before .before .before .before .loop) .inv) (c .before .if1 .taken)
+    (c .if2 .taken)
 
 add-absent : tie.Need-add-absent Inv-loop μ-loop
 add-absent c = omega (arith, (c .before .before .before .before .before .loop) .inv .few, page-low (c .before .before .before .before))

@@ -6,7 +6,8 @@ use Rattle.machine.specs.Machine.{write, asked}
 use Rattle.memory.specs.Memory.{Memory, memory, sizesOf, lengths}
 use Rattle.laws.specs.Told.{early-refused}
 use Rattle.writing.specs.Writing.{write-admitted}
-use Rattle.writing.proofs.Written.{number-is, Spanned, Decided, admitted, end-inside, end-small, span-lookable, span-touchable, decided, refused-short, resident-decided, resident-stay, next-span, next-lookable, written}
+use Rattle.writing.proofs.Written.{number-is, Spanned, Decided, admitted, end-inside, end-small, span-lookable, span-touchable, decided, refused-short}
+use Rattle.writing.proofs.Written.{resident-decided, resident-stay, next-span, next-lookable, written}
 use Rattle.writing.proofs.write.Statement.{statement}
 use Rattle.writing.proofs.write.Tie as tie
 
@@ -37,7 +38,8 @@ touched c = c .before .before .before .before .before .before .before .before .b
 number : (c : tie.After-check)
     → let s = entry c in
     c .check .result ≡ asked (sizesOf (s .args .head)) (write (s .args .space) (s .args .address) (s .args .bytes .now) (lengths (lent s)))
-number c = let s = entry c in number-is (lent s) (s .args .space) (s .args .address) (s .args .bytes .now) (c .check .ensures) (c .before .span-inside .ensures)
+number c =
+    let s = entry c in number-is (lent s) (s .args .space) (s .args .address) (s .args .bytes .now) (c .check .ensures) (c .before .span-inside .ensures)
 
 passes : (c : tie.Else1)
     → let s = entry (c .before) in
@@ -84,7 +86,8 @@ returns-2 c =
     written s (resident-stay s all) (resident-decided s all) refl refl (c .before .before .store .ensures)
 
 survey-requires : tie.Need-survey-requires
-survey-requires c κs = let s = span (c .before .before .before .before .before .before .before .before .before .before .before .before) in (omega arith, end-inside s, span-lookable s)
+survey-requires c κs = let s = span
+    (c .before .before .before .before .before .before .before .before .before .before .before .before) in (omega arith, end-inside s, span-lookable s)
 
 settled-requires : tie.Need-settled-requires
 settled-requires c κs = admitted (span (c .before .before .before .before .before .before .before .before .before .before .before .before .before)) .sizes-ok
@@ -106,7 +109,8 @@ returns-4 : tie.Need-returns-4
 returns-4 c =
     let t = touched (c .before .before .before) in
     let p = paged (accepted t .before) in
-    written (span p) (t .touch-all .ensures (entry (checked p) .args .ram .now)) (decision (accepted t .before)) (accepted t .if3 .left) refl (c .before .before .store2 .ensures)
+    written (span p) (t .touch-all .ensures (entry (checked p) .args .ram .now)) (decision (accepted t .before)) (accepted t .if3 .left) refl
+    (c .before .before .store2 .ensures)
 
 pub write-spec : {M : Type 1} → statement M
 write-spec =

@@ -20,7 +20,11 @@ cast-t7 c = small (c .before .is-small2 .ensures) (c .if2 .left)
 returns-3 : tie.Need-returns-3
 returns-3 c =
     let here = c .before in
-    rw (held (here .before .before .before .is-small .ensures) (here .before .before .if1 .left), held (here .before .is-small2 .ensures) (here .if2 .left), c .no-parts .ensures)
+    rw (
+      held (here .before .before .before .is-small .ensures) (here .before .before .if1 .left),
+      held (here .before .is-small2 .ensures) (here .if2 .left),
+      c .no-parts .ensures,
+    )
 
 pub page-code-spec : {M : Type 1} → statement M
 page-code-spec =

@@ -21,7 +21,12 @@ add-t11 c =
     omega (arith, ends (s .args .from) (s .args .n) (s .args .whole) (c .before .before .is-inside .ensures) (c .before .if2 .left))
 
 returns-3 : tie.Need-returns-3
-returns-3 c = rw (held (c .before .before .before .before .is-small .ensures) (c .before .before .before .if1 .left), held (c .before .before .is-inside .ensures) (c .before .if2 .left), c .span-request .ensures)
+returns-3 c = rw (
+  held (c .before .before .before .before .is-small .ensures) (c .before .before .before .if1 .left),
+  held
+      (c .before .before .is-inside .ensures) (c .before .if2 .left),
+  c .span-request .ensures,
+)
 
 pub span-code-spec : {M : Type 1} → statement M
 span-code-spec =

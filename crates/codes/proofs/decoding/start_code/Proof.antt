@@ -15,14 +15,25 @@ returns-3 : tie.Need-returns-3
 returns-3 c =
     let second = c .before .before in
     let first = second .before .before in
-    rw (held (first .before .is-small .ensures) (first .if1 .left), held (second .before .is-small2 .ensures) (second .if2 .left), failed (c .before .is-small3 .ensures) (c .if3 .taken))
+    rw (
+      held (first .before .is-small .ensures) (first .if1 .left),
+      held (second .before .is-small2 .ensures) (second .if2 .left),
+      failed
+          (c .before .is-small3 .ensures) (c .if3 .taken),
+    )
 
 returns-4 : tie.Need-returns-4
 returns-4 c =
     let third = c .before .before in
     let second = third .before .before in
     let first = second .before .before in
-    rw (held (first .before .is-small .ensures) (first .if1 .left), held (second .before .is-small2 .ensures) (second .if2 .left), held (third .before .is-small3 .ensures) (third .if3 .left), failed (c .before .is-small4 .ensures) (c .if4 .taken))
+    rw (
+      held (first .before .is-small .ensures) (first .if1 .left),
+      held (second .before .is-small2 .ensures) (second .if2 .left),
+      held
+          (third .before .is-small3 .ensures) (third .if3 .left),
+      failed (c .before .is-small4 .ensures) (c .if4 .taken),
+    )
 
 cast-t7 : tie.Need-cast-t7
 cast-t7 c = small (c .before .before .before .before .before .before .before .is-small .ensures) (c .before .before .before .before .before .before .if1 .left)
@@ -42,7 +53,14 @@ returns-5 c =
     let third = fourth .before .before in
     let second = third .before .before in
     let first = second .before .before in
-    rw (held (first .before .is-small .ensures) (first .if1 .left), held (second .before .is-small2 .ensures) (second .if2 .left), held (third .before .is-small3 .ensures) (third .if3 .left), held (fourth .before .is-small4 .ensures) (fourth .if4 .left), c .no-parts .ensures)
+    rw (
+      held (first .before .is-small .ensures) (first .if1 .left),
+      held (second .before .is-small2 .ensures) (second .if2 .left),
+      held
+          (third .before .is-small3 .ensures) (third .if3 .left),
+      held (fourth .before .is-small4 .ensures) (fourth .if4 .left),
+      c .no-parts .ensures,
+    )
 
 pub start-code-spec : {M : Type 1} → statement M
 start-code-spec =

@@ -62,8 +62,11 @@ loop-again c =
     let a = c .before .before .before .before .before .before .before .args in
     let l = c .before .before .before .before .loop in
     let t = c .before .before .before .loop-test .taken in
-    let e : a .at + 2 * (l .i + 1) ≡ a .at + 2 * l .i + 1 + 1 = omega arith in
-    (omega arith, rw (hex-more (a .bytes .now) (l .i) t, e, c .before .glyph-of .ensures, c .glyph-of2 .ensures) (wrote-next _ (wrote-next _ (l .inv .1) (omega arith)) (omega arith)))
+    let e : a .at + 2 * (l .i + 1) ≡ a .at + 2 * l .i + 1 + 1 = omega arith in (
+      omega arith,
+      rw (hex-more (a .bytes .now) (l .i) t, e, c .before .glyph-of .ensures, c .glyph-of2 .ensures)
+          (wrote-next _ (wrote-next _ (l .inv .1) (omega arith)) (omega arith)),
+    )
 
 mul-result : tie.Need-mul-result Inv-loop μ-loop
 mul-result c = omega arith

@@ -13,8 +13,11 @@ put-requires c κs =
 returns : tie.Need-returns
 returns c =
     let d = c .before .before .before .before .before .decimal .ensures in
-    let w = c .before .before .put .ensures in
-    (rw (d .1 .1, decimal-is _ _ (d .1 .0)) at w, omega (arith, few-digits _ _ (c .before .before .before .before .before .before .before .before .fits .n .fits) (d .1 .0), d .0 .1, w .end-is))
+    let w = c .before .before .put .ensures in (
+      rw (d .1 .1, decimal-is _ _ (d .1 .0)) at w,
+      omega
+          (arith, few-digits _ _ (c .before .before .before .before .before .before .before .before .fits .n .fits) (d .1 .0), d .0 .1, w .end-is),
+    )
 
 pub put-number-spec : {M : Type 1} → statement M
 put-number-spec =

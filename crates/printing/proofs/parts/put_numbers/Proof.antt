@@ -50,7 +50,8 @@ loop-again c =
     let a = c .before .before .before .before .before .before .before .before .before .before .before .before .before .before .args in
     let l = c .before .before .before .before .before .before .before .before .before .before .before .loop in
     let t = c .before .before .before .before .before .before .before .before .before .before .loop-test .taken in
-    let w = wrote-more (wrote-more (l .inv .3) (c .before .before .before .before .before .before .before .put .ensures)) (c .before .before .put-number .ensures .0) in
+    let w = wrote-more (wrote-more (l .inv .3) (c .before .before .before .before .before .before .before .put .ensures))
+    (c .before .before .put-number .ensures .0) in
     (omega arith, refl, omega arith, rw (numbers-more (a .numbers .now) (l .i) t) w)
 
 same-length : tie.Need-same-length Inv-loop μ-loop

@@ -6,11 +6,13 @@ use Rattle.session_program.proofs.answering.answer_lines.Statement.{sta
 use Rattle.session_program.proofs.answering.answer_lines.Tie as tie
 
 abbrev Inv-loop : tie.InvT-loop
-Inv-loop input n is-last is-long out₀ buffer₀ records₀ index₀ count₀ table₀ helper₀ stack₀ cache₀ link₀ ram₀ next₀ is-long₀ from₀ at₀ out buffer records index count table helper stack cache link ram next is-long' from at =
+Inv-loop input n is-last is-long out₀ buffer₀ records₀ index₀ count₀ table₀ helper₀ stack₀ cache₀ link₀ ram₀ next₀ is-long₀ from₀ at₀ out buffer records
+    index count table helper stack cache link ram next is-long' from at =
     Unit {0}
 
 abbrev μ-loop : tie.MeasureT-loop
-μ-loop input n is-last is-long out₀ buffer₀ records₀ index₀ count₀ table₀ helper₀ stack₀ cache₀ link₀ ram₀ next₀ is-long₀ from₀ at₀ out buffer records index count table helper stack cache link ram next is-long' from at =
+μ-loop input n is-last is-long out₀ buffer₀ records₀ index₀ count₀ table₀ helper₀ stack₀ cache₀ link₀ ram₀ next₀ is-long₀ from₀ at₀ out buffer records index
+    count table helper stack cache link ram next is-long' from at =
     n - from
 
 sub-answer-line : tie.Need-sub-answer-line Inv-loop μ-loop
