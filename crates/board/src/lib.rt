@@ -18,7 +18,7 @@ ghost use Rattle.machine.specs.Answers.{doneSays, freeSays, touchedSays, looked
 ghost use Rattle.memory.specs.Memory.{memory};
 ghost use Rattle.promise.specs.Did.{Did};
 ghost use Rattle.promise.specs.Filled.{ReadDid, RecordsDid};
-ghost use Rattle.marking.specs.Steps.{sizes};
+ghost use Rattle.machine.specs.Machine.{sizes};
 
 // Sets the sizes: no starts, every frame in the pool. Five tables and the RAM may hold anything.
 pub fn start(

@@ -20,7 +20,7 @@ ghost use Rattle.machine.specs.declared.Listed.{Listed};
 ghost use Rattle.memory.specs.Memory.{memory};
 ghost use Rattle.promise.specs.Did.{Did};
 ghost use Rattle.promise.specs.Filled.{ReadDid, RecordsDid, recordsFilled};
-ghost use Rattle.marking.specs.Steps.{sizes};
+ghost use Rattle.machine.specs.Machine.{sizes};
 ghost use Rattle.sizing.specs.Needed.{numbersOf, neededFor};
 ghost use Rattle.corwystal.specs.Encodes.{Encodes};
 

@@ -8,7 +8,7 @@ use lib.Dec.{eqb}
 use lib.ListN.{replicate, take, drop as rest}
 use Rattle.sequence.specs.Lists.{tabulate}
 use Rattle.places.specs.Places.{lastBelow, wordsRead, size}
-use Rattle.machine.specs.Machine.{Sizes, State, Lent, unstarted, Call, start, mark, drop, touch, look, release, free, translate, read, write, list, Answer}
+use Rattle.machine.specs.Machine.{Sizes, sizes, State, Lent, unstarted, Call, start, mark, drop, touch, look, release, free, translate, read, write, list, Answer}
 use Rattle.machine.specs.Machine.{done, old, new, resident, absent, pages, frames, at, bytes, regions, refused, refusedAfter, answers, afterAll, step, asked}
 use Rattle.machine.specs.Machine.{accepted, sizesOk, isPageSize, enough, startIn, frameIn, firstAbsence, anyOutside, countAbsent, touchAll, stored}
 use Rattle.machine.specs.Machine.{untilStart, records}
@@ -16,9 +16,6 @@ use Rattle.machine.specs.Machine.{untilStart, records}
 -- every buffer as long as it may ever have to be
 abbrev pub all : Lent
 all = record { index = 4161; count = 262144; table = 262144; helper = 262144; stack = 262144; cache = 262144; link = 65536; ram = 4294967296 }
-
-abbrev pub sizes : ℕ → ℕ → ℕ → ℕ → Sizes
-sizes s n f p = record { spaces = s; pages = n; frames = f; page = p }
 
 -- ---- "One session whole"
 

@@ -19,7 +19,8 @@ use Rattle.laws.specs.Models.{lentTo, checkOf}
 use Rattle.marking.specs.Models.{changeSays, startHead}
 use Rattle.laws.specs.Checking.{checked-no, checked-yes, ready}
 use Rattle.marking.specs.Marking.{start-did}
-use Rattle.marking.specs.Steps.{sizes, Beginnable, Begins}
+use Rattle.machine.specs.Machine.{sizes}
+use Rattle.marking.specs.Steps.{Beginnable, Begins}
 
 pub begins : (next : Head) (t : ℕ) (ws count : List ℕ) (d : Change) (a : Answer) (ws′ count′ : List ℕ) → t ≡ places (sizesOf next)
     → Prepared t ws d ws′ → count′ ≡ replicate t 0 ++ drop t count → a ≡ changeSays d → Begins next ws count next a ws′ count′

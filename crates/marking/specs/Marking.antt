@@ -25,7 +25,7 @@ use Rattle.index.specs.declared.Found.{Found}
 use Rattle.index.specs.Words.{indexOf, bitAt}
 use Rattle.index.specs.Promise.{Put, Sought}
 use Rattle.index.specs.Laws.{length-index, index-front, index-bit, index-ext}
-use Rattle.machine.specs.Machine.{Sizes, places, placeOf, isPageSize, sizesOk, firstOf, State, Pair, isStart, region, startOf, notBelow, wordsAt, Lent, Uses}
+use Rattle.machine.specs.Machine.{Sizes, sizes, places, placeOf, isPageSize, sizesOk, firstOf, State, Pair, isStart, region, startOf, notBelow, wordsAt, Lent, Uses}
 use Rattle.machine.specs.Machine.{uses, Call, start, mark, drop, facts, asked, Answer, done, refused, tell, begun, withStart, unlessResident, markCut, markAt}
 use Rattle.machine.specs.Machine.{dropAt, accepted, step, answer, after}
 use Rattle.machine.specs.declared.PageCall.the-variants.{Mark, Drop}
@@ -421,16 +421,12 @@ module _ (s n f shift : ℕ) (k : Memory) where
         begins = λ _. (refl, begun-holds (w .sizes-ok));
       })
 
--- the sizes that a start is asked for
-abbrev sizes : ℕ → ℕ → ℕ → ℕ → Sizes
-sizes s n f p = record { spaces = s; pages = n; frames = f; page = p }
-
 no-page-size : (z₀ z : Sizes) (l : Lent) → isPageSize (z .page) ≡ false → asked z₀ (start z l) ≡ 1
 unfolding asked sizesOk
 no-page-size z₀ z l e = rw (e, and-false)
 
 pub start-did : (s n f p : ℕ) (k : Memory) (a : Answer) (k′ : Memory) → StartDone s n f p k a k′
-    → Did (start (record { spaces = s; pages = n; frames = f; page = p })) k a k′
+    → Did (start (sizes s n f p)) k a k′
 unfolding pageSizeFor
 start-did s n f p k a k′ d = go (isPageSize p) refl d
   where

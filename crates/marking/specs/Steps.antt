@@ -7,13 +7,10 @@ use lib.ListN.{length}
 use Rattle.index.specs.Answers as index
 use Rattle.index.specs.Promise.{Sought}
 use Rattle.index.specs.declared.Found.{Found}
-use Rattle.machine.specs.Machine.{Sizes, places, sizesOk, Answer}
+use Rattle.machine.specs.Machine.{places, sizesOk, Answer}
 use Rattle.memory.specs.Memory.{Memory, memory, sizesOf}
 use Rattle.memory.specs.declared.Head.{Head}
 use Rattle.marking.specs.Models.{cutCount, withIndex, AsksStart, MarkIf, DropIf, Starts}
-
-abbrev pub sizes : ℕ → ℕ → ℕ → ℕ → Sizes
-sizes s n f p = record { spaces = s; pages = n; frames = f; page = p }
 
 -- ---- start
 

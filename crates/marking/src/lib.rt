@@ -23,7 +23,8 @@ ghost use Rattle.memory.specs.Memory.{memory};
 ghost use Rattle.promise.specs.Did.{Did};
 ghost use Rattle.laws.specs.Models.{lentTo};
 ghost use Rattle.marking.specs.Models.{changeSays};
-ghost use Rattle.marking.specs.Steps.{sizes, Beginnable, Begins, Searchable, CutPages, MarkedAt, DroppedAt};
+ghost use Rattle.machine.specs.Machine.{sizes};
+ghost use Rattle.marking.specs.Steps.{Beginnable, Begins, Searchable, CutPages, MarkedAt, DroppedAt};
 
 // The lengths of a call that is lent the index and the resident counts.
 fn lent(index: usize, count: usize) -> Lengths

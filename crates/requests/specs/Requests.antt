@@ -14,7 +14,7 @@ use Rattle.requests.specs.declared.Reply.the-variants as reply-is
 
 -- the call that a request is: read and write have all of the byte buffer, list all of the records
 abbrev pub requested : Request → List ℕ → List ℕ → machine.Lent → machine.Call
-requested (request-is.Start s n f p) buffer records = machine.start (record { spaces = s; pages = n; frames = f; page = p })
+requested (request-is.Start s n f p) buffer records = machine.start (machine.sizes s n f p)
 requested (request-is.Page p i b) buffer records = machine.page p i b
 requested request-is.Free buffer records = λ _. machine.free
 requested (request-is.Translate i x) buffer records = machine.translate i x

@@ -7,7 +7,7 @@ use Prim.Native.Nat.{ℕ, zero, suc, _≤_}
 use native.Mathlib.Omega.{arith}
 use lib.ListN.{length, drop}
 use lib.Seq.{take-length, drop-length}
-use Rattle.machine.specs.Machine.{Sizes, sizesOk, State, Lent, Call, start, uses, asked, accepted, Answer, done, refusal, answer, after, Out, begun}
+use Rattle.machine.specs.Machine.{Sizes, sizes, sizesOk, State, Lent, Call, start, uses, asked, accepted, Answer, done, refusal, answer, after, Out, begun}
 use Rattle.machine.specs.Machine.{unstarted, step}
 use Rattle.memory.specs.Memory.{Memory, memory, sizesOf, lengths}
 use Rattle.promise.specs.Holds.{Holds}
@@ -143,7 +143,7 @@ module _ (m : State) (k : Memory) (a : Answer) (k₁ : Memory) (u : Unstarted m 
   unstarted-served : (q : Request) (bytes records : List ℕ) → RoomFor q k → Did (requested q bytes records) k a k₁
       → FollowsMachine m (requested q bytes records (lengths k)) a k₁
   unfolding asked
-  unstarted-served (Start s n f p) bytes records room d = start-served (record { spaces = s; pages = n; frames = f; page = p }) (room bytes records) d
+  unstarted-served (Start s n f p) bytes records room d = start-served (sizes s n f p) (room bytes records) d
   unstarted-served (Page p i b) bytes records room d = refused-first _ (λ z e. rw e) d
   unstarted-served Free bytes records room d = refused-first _ (λ z e. rw e) d
   unstarted-served (Translate i x) bytes records room d = refused-first _ (λ z e. rw e) d

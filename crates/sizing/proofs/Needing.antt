@@ -12,7 +12,7 @@ use Rattle.machine.specs.Laws.Sizes.{fit, some-places}
 use Rattle.machine.specs.declared.MadeSize.{MadeSize}
 use Rattle.machine.specs.declared.MadeSize.the-variants.{Made, Refused}
 use Rattle.machine.specs.declared.PageSize.{PageSize}
-use Rattle.marking.specs.Steps.{sizes}
+use Rattle.machine.specs.Machine.{sizes}
 use Rattle.sizing.specs.Needed.{neededFor}
 
 and-false : (a b c d : Bool) → (a && b && c && d && false) ≡ false

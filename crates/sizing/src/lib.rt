@@ -9,7 +9,7 @@ use machine::PageSize;
 use memory::Head;
 ghost use mathlib.Core.List.{[], _∷_};
 ghost use mathlib.Core.Path.{_≡_};
-ghost use Rattle.marking.specs.Steps.{sizes};
+ghost use Rattle.machine.specs.Machine.{sizes};
 ghost use Rattle.sizing.specs.Needed.{numbersOf, neededFor};
 
 // Words of the index, entries of the five tables with one a place, of the frame link, bytes of RAM;

@@ -22,112 +22,43 @@ abbrev μ-loop : tie.MeasureT-loop
     cache link ram next j =
     n - j
 
--- the next code lies inside the list, and so does its reply
-bounds : (c : tie.In-loop Inv-loop μ-loop)
-    → let a = c .before .before .before .before .before .before .before .before .before .before .before .before .before .before .before .args in
-    (5 * c .before .loop .j + 5 ≤ length (a .codes .now)) × (3 * c .before .loop .j + 3 ≤ length (a .replies .now))
-bounds c = code-inside _ _ _ _ (c .before .before .least .ensures) (c .loop-test .taken)
+abbrev entry : tie.In-loop Inv-loop μ-loop → tie.Start Inv-loop μ-loop
+entry c = c .before .before .before .before .before .before .before .before .before .before .before .before .before .before .before
 
--- their bytes are numbers of 64 bits
-codes-small : (c : tie.In-loop Inv-loop μ-loop)
-    → length (c .before .before .before .before .before .before .before .before .before .before .before .before .before .before .before .args .codes .now) *
-    8 < 2 ^ 63
-codes-small c = c .before .before .before .before .before .before .before .before .before .before .before .before .before .before .before .good .1 .0 .1
+-- the turn that a call was made in, and the call's end
+abbrev turn : tie.After-play-one Inv-loop μ-loop → tie.In-loop Inv-loop μ-loop
+turn c = c .before .before .before .before .before .before .before .before .before .before .before .before .before .before .before .before .before
 
-replies-small : (c : tie.In-loop Inv-loop μ-loop)
-    → length (c .before .before .before .before .before .before .before .before .before .before .before .before .before .before .before .args .replies .now)
-    * 8 < 2 ^ 63
-replies-small c = c .before .before .before .before .before .before .before .before .before .before .before .before .before .before .before .good .1 .1 .0 .1
+abbrev called : tie.After-slice-known22 Inv-loop μ-loop → tie.After-play-one Inv-loop μ-loop
+called c = c .before .before .before .before .before .before .before .before .before .before .before .before .before .before .before .before .before .before .before .before .before .before
+
+-- the next code lies inside the list, and so does its reply; their bytes are numbers of 64 bits
+pub record Bounds (c : tie.In-loop Inv-loop μ-loop) : Type 0 where
+  pub code : 5 * c .before .loop .j + 5 ≤ length (entry c .args .codes .now)
+  pub reply : 3 * c .before .loop .j + 3 ≤ length (entry c .args .replies .now)
+  pub codes-small : length (entry c .args .codes .now) * 8 < 2 ^ 63
+  pub replies-small : length (entry c .args .replies .now) * 8 < 2 ^ 63
+
+bounds : (c : tie.In-loop Inv-loop μ-loop) → Bounds c
+bounds c =
+    let i = code-inside _ _ _ _ (c .before .before .least .ensures) (c .loop-test .taken) in
+    record { code = i .0; reply = i .1; codes-small = entry c .good .1 .0 .1; replies-small = entry c .good .1 .1 .0 .1 }
 
 loop-holds : tie.Need-loop-holds Inv-loop μ-loop
 loop-holds c = playing-none _ _ _ _
 
-mul-from : tie.Need-mul-from Inv-loop μ-loop
-mul-from c = let b = bounds (c) in omega (arith, codes-small (c), replies-small (c))
-
-mul-to : tie.Need-mul-to Inv-loop μ-loop
-mul-to c = let b = bounds (c) in omega (arith, codes-small (c), replies-small (c))
-
-add-end : tie.Need-add-end Inv-loop μ-loop
-add-end c = let b = bounds (c) in omega (arith, codes-small (c), replies-small (c))
-
-mul-play-one : tie.Need-mul-play-one Inv-loop μ-loop
-mul-play-one c = let b = bounds (c) in omega (arith, codes-small (c), replies-small (c))
-
-shared-slice-read-play-one : tie.Need-shared-slice-read-play-one Inv-loop μ-loop
-shared-slice-read-play-one c = let b = bounds (c .before) in omega (arith, codes-small (c .before), replies-small (c .before))
-
-add-play-one : tie.Need-add-play-one Inv-loop μ-loop
-add-play-one c = let b = bounds (c .before) in omega (arith, codes-small (c .before), replies-small (c .before))
-
-mul-play-one-2 : tie.Need-mul-play-one-2 Inv-loop μ-loop
-mul-play-one-2 c = let b = bounds (c .before) in omega (arith, codes-small (c .before), replies-small (c .before))
-
-shared-slice-read-play-one-2 : tie.Need-shared-slice-read-play-one-2 Inv-loop μ-loop
-shared-slice-read-play-one-2 c = let b = bounds (c .before .before) in omega (arith, codes-small (c .before .before), replies-small (c .before .before))
-
-add-play-one-2 : tie.Need-add-play-one-2 Inv-loop μ-loop
-add-play-one-2 c = let b = bounds (c .before .before) in omega (arith, codes-small (c .before .before), replies-small (c .before .before))
-
-mul-play-one-3 : tie.Need-mul-play-one-3 Inv-loop μ-loop
-mul-play-one-3 c = let b = bounds (c .before .before) in omega (arith, codes-small (c .before .before), replies-small (c .before .before))
-
-shared-slice-read-play-one-3 : tie.Need-shared-slice-read-play-one-3 Inv-loop μ-loop
-shared-slice-read-play-one-3 c =
-    let b = bounds (c .before .before .before) in omega (arith, codes-small (c .before .before .before), replies-small (c .before .before .before))
-
-add-play-one-3 : tie.Need-add-play-one-3 Inv-loop μ-loop
-add-play-one-3 c =
-    let b = bounds (c .before .before .before) in omega (arith, codes-small (c .before .before .before), replies-small (c .before .before .before))
-
-mul-play-one-4 : tie.Need-mul-play-one-4 Inv-loop μ-loop
-mul-play-one-4 c =
-    let b = bounds (c .before .before .before) in omega (arith, codes-small (c .before .before .before), replies-small (c .before .before .before))
-
-shared-slice-read-play-one-4 : tie.Need-shared-slice-read-play-one-4 Inv-loop μ-loop
-shared-slice-read-play-one-4 c = let b = bounds (c .before .before .before .before) in omega
-    (arith, codes-small (c .before .before .before .before), replies-small (c .before .before .before .before))
-
-add-play-one-4 : tie.Need-add-play-one-4 Inv-loop μ-loop
-add-play-one-4 c = let b = bounds (c .before .before .before .before) in omega
-    (arith, codes-small (c .before .before .before .before), replies-small (c .before .before .before .before))
-
-mul-play-one-5 : tie.Need-mul-play-one-5 Inv-loop μ-loop
-mul-play-one-5 c = let b = bounds (c .before .before .before .before) in omega
-    (arith, codes-small (c .before .before .before .before), replies-small (c .before .before .before .before))
-
-shared-slice-read-play-one-5 : tie.Need-shared-slice-read-play-one-5 Inv-loop μ-loop
-shared-slice-read-play-one-5 c = let b = bounds (c .before .before .before .before .before) in omega
-    (arith, codes-small (c .before .before .before .before .before), replies-small (c .before .before .before .before .before))
-
-mul-play-one-6 : tie.Need-mul-play-one-6 Inv-loop μ-loop
-mul-play-one-6 c = let b = bounds (c .before .before .before .before .before) in omega
-    (arith, codes-small (c .before .before .before .before .before), replies-small (c .before .before .before .before .before))
-
-sub-play-one : tie.Need-sub-play-one Inv-loop μ-loop
-sub-play-one c = let b = bounds (c .before .before .before .before .before) in omega
-    (arith, codes-small (c .before .before .before .before .before), replies-small (c .before .before .before .before .before))
-
-part-play-one-start : tie.Need-part-play-one-start Inv-loop μ-loop
-part-play-one-start c = let b = bounds (c .before .before .before .before .before) in omega
-    (arith, codes-small (c .before .before .before .before .before), replies-small (c .before .before .before .before .before))
-
-part-play-one-end : tie.Need-part-play-one-end Inv-loop μ-loop
-part-play-one-end c = let b = bounds (c .before .before .before .before .before) in omega
-    (arith, codes-small (c .before .before .before .before .before), replies-small (c .before .before .before .before .before))
-
 play-one-requires : tie.Need-play-one-requires Inv-loop μ-loop
 play-one-requires c κs =
     let l = c .before .before .before .before .before .before .before .before .before .before .before .before .before .before .before .before in
-    let b = bounds l in
-    mid-len (3 * l .before .loop .j) (3 * l .before .loop .j + 3) (l .before .loop .replies) (omega (arith, l .before .loop .inv .replies-long))
+    let i = bounds l in
+    mid-len (3 * l .before .loop .j) (3 * l .before .loop .j + 3) (l .before .loop .replies) (omega (arith, l .before .loop .inv .replies-long, i .reply))
     ∙ (omega arith)
 
 add-j : tie.Need-add-j Inv-loop μ-loop
-add-j c = let b = bounds (c .before .before .before .before .before .before .before .before .before .before .before .before .before .before .before .before .before .before .before .before .before .before .before .before .before .before .before .before .before .before .before .before .before .before .before .before .before .before .before) in omega (arith, codes-small (c .before .before .before .before .before .before .before .before .before .before .before .before .before .before .before .before .before .before .before .before .before .before .before .before .before .before .before .before .before .before .before .before .before .before .before .before .before .before .before))
+add-j c = let i = bounds (turn (called c)) in omega (arith, i .code, i .codes-small)
 
 loop-less : tie.Need-loop-less Inv-loop μ-loop
-loop-less c = omega (arith, c .before .before .before .before .before .before .before .before .before .before .before .before .before .before .before .before .before .before .before .before .before .before .before .before .before .before .before .before .before .before .before .before .before .before .before .before .before .before .before .loop-test .taken)
+loop-less c = omega (arith, turn (called c) .loop-test .taken)
 
 loop-again : tie.Need-loop-again Inv-loop μ-loop
 loop-again c =
@@ -143,7 +74,7 @@ loop-again c =
     let bytes = records .before .before in
     let replies = bytes .before .before in
     let done = replies .before in
-    let l = done .before .before .before .before .before .before .before .before .before .before .before .before .before .before .before .before .before in
+    let l = turn done in
     playing-more _ _ _ _ _ _ _ (l .before .loop .inv) (l .loop-test .taken) _ _ _ _
     (record {
       index = index .index .given;
@@ -167,44 +98,24 @@ pub play-spec : {M : Type 1} → statement M
 play-spec =
     tie.close
     (tie.spec
-    Inv-loop
-    μ-loop
-    (λ c κs. search needs)
-    loop-holds
-    mul-from
-    mul-to
-    add-end
-    mul-play-one
-    shared-slice-read-play-one
-    add-play-one
-    mul-play-one-2
-    shared-slice-read-play-one-2
-    add-play-one-2
-    mul-play-one-3
-    shared-slice-read-play-one-3
-    add-play-one-3
-    mul-play-one-4
-    shared-slice-read-play-one-4
-    add-play-one-4
-    mul-play-one-5
-    shared-slice-read-play-one-5
-    mul-play-one-6
-    sub-play-one
-    part-play-one-start
-    part-play-one-end
-    play-one-requires
-    add-j
-    loop-less
-    loop-again
-    (λ c. search needs)
-    (λ c. search needs)
-    (λ c. search needs)
-    (λ c. search needs)
-    (λ c. search needs)
-    (λ c. search needs)
-    (λ c. search needs)
-    (λ c. search needs)
-    (λ c. search needs)
-    (λ c. search needs)
-    (λ c. search needs)
-    returns)
+    Inv-loop μ-loop (λ c κs. search needs) loop-holds (λ c. let i = bounds c in omega (arith, i .code, i .reply, i .codes-small, i .replies-small))
+    (λ c. let i = bounds c in omega (arith, i .code, i .reply, i .codes-small, i .replies-small))
+    (λ c. let i = bounds c in omega (arith, i .code, i .reply, i .codes-small, i .replies-small))
+    (λ c. let i = bounds c in omega (arith, i .code, i .reply, i .codes-small, i .replies-small))
+    (λ c. let i = bounds (c .before) in omega (arith, i .code, i .reply, i .codes-small, i .replies-small))
+    (λ c. let i = bounds (c .before) in omega (arith, i .code, i .reply, i .codes-small, i .replies-small))
+    (λ c. let i = bounds (c .before) in omega (arith, i .code, i .reply, i .codes-small, i .replies-small))
+    (λ c. let i = bounds (c .before .before) in omega (arith, i .code, i .reply, i .codes-small, i .replies-small))
+    (λ c. let i = bounds (c .before .before) in omega (arith, i .code, i .reply, i .codes-small, i .replies-small))
+    (λ c. let i = bounds (c .before .before) in omega (arith, i .code, i .reply, i .codes-small, i .replies-small)) shared-slice-read-play-one-3
+    add-play-one-3 mul-play-one-4
+    (λ c. let i = bounds (c .before .before .before .before) in omega (arith, i .code, i .reply, i .codes-small, i .replies-small))
+    (λ c. let i = bounds (c .before .before .before .before) in omega (arith, i .code, i .reply, i .codes-small, i .replies-small))
+    (λ c. let i = bounds (c .before .before .before .before) in omega (arith, i .code, i .reply, i .codes-small, i .replies-small))
+    (λ c. let i = bounds (c .before .before .before .before .before) in omega (arith, i .code, i .reply, i .codes-small, i .replies-small))
+    (λ c. let i = bounds (c .before .before .before .before .before) in omega (arith, i .code, i .reply, i .codes-small, i .replies-small))
+    (λ c. let i = bounds (c .before .before .before .before .before) in omega (arith, i .code, i .reply, i .codes-small, i .replies-small))
+    (λ c. let i = bounds (c .before .before .before .before .before) in omega (arith, i .code, i .reply, i .codes-small, i .replies-small))
+    (λ c. let i = bounds (c .before .before .before .before .before) in omega (arith, i .code, i .reply, i .codes-small, i .replies-small))
+    play-one-requires add-j loop-less loop-again (λ c. search needs) (λ c. search needs) (λ c. search needs) (λ c. search needs) (λ c. search needs)
+    (λ c. search needs) (λ c. search needs) (λ c. search needs) (λ c. search needs) (λ c. search needs) (λ c. search needs) returns)

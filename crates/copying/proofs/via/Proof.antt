@@ -34,10 +34,4 @@ pub via-spec : {M : Type 1} → statement M
 via-spec =
     tie.close
     (tie.spec
-    (λ c κs. search needs)
-    (λ c. search needs)
-    slice-aggregate-copy
-    copy-requires-2
-    (λ c. search needs)
-    (λ c. search needs)
-    returns)
+    (λ c κs. search needs) (λ c. search needs) slice-aggregate-copy copy-requires-2 (λ c. search needs) (λ c. search needs) returns)

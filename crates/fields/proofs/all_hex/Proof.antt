@@ -47,13 +47,4 @@ pub all-hex-spec : {M : Type 1} → statement M
 all-hex-spec =
     tie.close
     (tie.spec
-    Inv-loop
-    μ-loop
-    loop-holds
-    shared-slice-read-is-hex
-    (λ c κs. search needs)
-    returns
-    add-i
-    loop-less
-    loop-again
-    returns-2)
+    Inv-loop μ-loop loop-holds shared-slice-read-is-hex (λ c κs. search needs) returns add-i loop-less loop-again returns-2)

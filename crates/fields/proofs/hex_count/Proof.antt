@@ -79,15 +79,5 @@ pub hex-count-spec : {M : Type 1} → statement M
 hex-count-spec =
     tie.close
     (tie.spec
-    (λ c. search needs)
-    returns
-    (λ c. search needs)
-    (λ c. search needs)
-    returns-2
-    returns-3
-    returns-4
-    returns-5
-    (λ c. search needs)
-    (λ c κs. search needs)
-    returns-6
-    returns-7)
+    (λ c. search needs) returns (λ c. search needs) (λ c. search needs) returns-2 returns-3 returns-4 returns-5 (λ c. search needs)
+    (λ c κs. search needs) returns-6 returns-7)

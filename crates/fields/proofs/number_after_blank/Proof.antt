@@ -103,28 +103,6 @@ pub number-after-blank-spec : {M : Type 1} → statement M
 number-after-blank-spec =
     tie.close
     (tie.spec
-    Inv-loop
-    μ-loop
-    sub-if1
-    returns
-    shared-slice-read-if2
-    returns-2
-    add-first
-    shared-slice-read-first
-    (λ c κs. search needs)
-    returns-3
-    digit-of-requires
-    add-i
-    loop-holds
-    shared-slice-read-c
-    (λ c κs. search needs)
-    returns-4
-    returns-5
-    mul-value
-    digit-of-requires-2
-    add-value
-    sub-left
-    add-i-2
-    loop-less
-    loop-again
-    returns-6)
+    Inv-loop μ-loop sub-if1 returns shared-slice-read-if2 returns-2 add-first shared-slice-read-first (λ c κs. search needs) returns-3
+    digit-of-requires add-i loop-holds shared-slice-read-c (λ c κs. search needs) returns-4 returns-5 mul-value digit-of-requires-2 add-value sub-left
+    add-i-2 loop-less loop-again returns-6)

@@ -92,27 +92,6 @@ pub unhex-spec : {M : Type 1} → statement M
 unhex-spec =
     tie.close
     (tie.spec
-    Inv-loop
-    μ-loop
-    returns
-    returns-2
-    mul-at
-    sub-at
-    loop-holds
-    shared-slice-read-a
-    add-b
-    shared-slice-read-b
-    (λ c κs. search needs)
-    same-length
-    returns-3
-    (λ c κs. search needs)
-    same-length-2
-    returns-4
-    byte-of-requires
-    slice-write-buffer
-    add-at
-    add-i
-    loop-less
-    loop-again
-    same-length-3
+    Inv-loop μ-loop returns returns-2 mul-at sub-at loop-holds shared-slice-read-a add-b shared-slice-read-b (λ c κs. search needs) same-length
+    returns-3 (λ c κs. search needs) same-length-2 returns-4 byte-of-requires slice-write-buffer add-at add-i loop-less loop-again same-length-3
     returns-5)

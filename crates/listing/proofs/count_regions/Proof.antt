@@ -40,13 +40,4 @@ pub count-regions-spec : {M : Type 1} → statement M
 count-regions-spec =
     tie.close
     (tie.spec
-    Inv-loop
-    μ-loop
-    loop-holds
-    start-below-requires
-    (λ c. search needs)
-    (λ c. search needs)
-    returns
-    add-n
-    loop-less
-    loop-again)
+    Inv-loop μ-loop loop-holds start-below-requires (λ c. search needs) (λ c. search needs) returns add-n loop-less loop-again)

@@ -40,12 +40,5 @@ pub last-region-spec : {M : Type 1} → statement M
 last-region-spec =
     tie.close
     (tie.spec
-    (λ c. search needs)
-    (λ c κs. search needs)
-    (λ c. search needs)
-    mul-region-at
-    shared-slice-read-region-at
-    region-at-requires
-    (λ c. search needs)
-    returns
-    returns-2)
+    (λ c. search needs) (λ c κs. search needs) (λ c. search needs) mul-region-at shared-slice-read-region-at region-at-requires (λ c. search needs)
+    returns returns-2)

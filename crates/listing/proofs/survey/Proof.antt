@@ -46,15 +46,5 @@ pub survey-spec : {M : Type 1} → statement M
 survey-spec =
     tie.close
     (tie.spec
-    (λ c κs. search needs)
-    (λ c κs. search needs)
-    returns
-    all-places-requires
-    place-requires
-    (λ c κs. search needs)
-    add-end
-    count-regions-requires
-    (λ c κs. search needs)
-    (λ c κs. search needs)
-    returns-2
-    returns-3)
+    (λ c κs. search needs) (λ c κs. search needs) returns all-places-requires place-requires (λ c κs. search needs) add-end count-regions-requires
+    (λ c κs. search needs) (λ c κs. search needs) returns-2 returns-3)

@@ -37,13 +37,5 @@ pub cut-pages-spec : {M : Type 1} → statement M
 cut-pages-spec =
     tie.close
     (tie.spec
-    (λ c κs. search needs)
-    (λ c. search needs)
-    mul-result
-    shared-slice-read-result
-    returns
-    (λ c. search needs)
-    (λ c. search needs)
-    returns-2
-    returns-3
+    (λ c κs. search needs) (λ c. search needs) mul-result shared-slice-read-result returns (λ c. search needs) (λ c. search needs) returns-2 returns-3
     returns-4)

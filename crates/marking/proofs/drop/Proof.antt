@@ -28,11 +28,4 @@ pub drop-spec : {M : Type 1} → statement M
 drop-spec =
     tie.close
     (tie.spec
-    (λ c κs. search needs)
-    (λ c κs. search needs)
-    returns
-    all-places-requires
-    place-requires
-    drop-at-requires
-    (λ c. search needs)
-    returns-2)
+    (λ c κs. search needs) (λ c κs. search needs) returns all-places-requires place-requires drop-at-requires (λ c. search needs) returns-2)

@@ -33,12 +33,5 @@ pub mark-spec : {M : Type 1} → statement M
 mark-spec =
     tie.close
     (tie.spec
-    (λ c κs. search needs)
-    (λ c κs. search needs)
-    returns
-    all-places-requires
-    place-requires
-    place-requires-2
-    mark-at-requires
-    (λ c. search needs)
+    (λ c κs. search needs) (λ c κs. search needs) returns all-places-requires place-requires place-requires-2 mark-at-requires (λ c. search needs)
     returns-2)

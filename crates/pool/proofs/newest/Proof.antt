@@ -30,12 +30,5 @@ pub newest-spec : {M : Type 1} → statement M
 newest-spec =
     tie.close
     (tie.spec
-    (λ c. search needs)
-    (λ c. search needs)
-    add-wide
-    mul-wide
-    shared-slice-read-wide
-    (λ c κs. search needs)
-    mul-result
-    shared-slice-read-result
+    (λ c. search needs) (λ c. search needs) add-wide mul-wide shared-slice-read-wide (λ c κs. search needs) mul-result shared-slice-read-result
     returns-2)

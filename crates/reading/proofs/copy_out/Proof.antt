@@ -77,18 +77,5 @@ pub copy-out-spec : {M : Type 1} → statement M
 copy-out-spec =
     tie.close
     (tie.spec
-    Inv-loop
-    μ-loop
-    loop-holds
-    add-x
-    sub-part
-    part-requires
-    add-next
-    sub-read-part
-    part-read-part-start
-    part-read-part-end
-    read-part-requires
-    loop-less
-    loop-again
-    (λ c. search needs)
-    returns)
+    Inv-loop μ-loop loop-holds add-x sub-part part-requires add-next sub-read-part part-read-part-start part-read-part-end read-part-requires
+    loop-less loop-again (λ c. search needs) returns)

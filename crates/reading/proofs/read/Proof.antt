@@ -128,23 +128,6 @@ pub read-spec : {M : Type 1} → statement M
 read-spec =
     tie.close
     (tie.spec
-    Inv-loop
-    μ-loop
-    (λ c κs. search needs)
-    (λ c κs. search needs)
-    returns
-    page-of-requires
-    pages-requires
-    add-end
-    loop-holds
-    cast-look-checked
-    look-checked-requires
-    (λ c. search needs)
-    (λ c κs. search needs)
-    returns-2
-    add-page
-    loop-less
-    loop-again
-    copy-out-requires
-    (λ c. search needs)
+    Inv-loop μ-loop (λ c κs. search needs) (λ c κs. search needs) returns page-of-requires pages-requires add-end loop-holds cast-look-checked
+    look-checked-requires (λ c. search needs) (λ c κs. search needs) returns-2 add-page loop-less loop-again copy-out-requires (λ c. search needs)
     returns-3)

@@ -81,14 +81,5 @@ pub translate-spec : {M : Type 1} → statement M
 translate-spec =
     tie.close
     (tie.spec
-    (λ c κs. search needs)
-    (λ c κs. search needs)
-    returns
-    page-of-requires
-    cast-look-checked
-    look-checked-requires
-    (λ c. search needs)
-    (λ c κs. search needs)
-    returns-2
-    ram-place-requires
-    returns-3)
+    (λ c κs. search needs) (λ c κs. search needs) returns page-of-requires cast-look-checked look-checked-requires (λ c. search needs)
+    (λ c κs. search needs) returns-2 ram-place-requires returns-3)

@@ -32,10 +32,4 @@ pub cut-at-spec : {M : Type 1} → statement M
 cut-at-spec =
     tie.close
     (tie.spec
-    (λ c. search needs)
-    (λ c. search needs)
-    (λ c κs. search needs)
-    returns
-    cuttable-requires
-    returns-2
-    returns-3)
+    (λ c. search needs) (λ c. search needs) (λ c κs. search needs) returns cuttable-requires returns-2 returns-3)

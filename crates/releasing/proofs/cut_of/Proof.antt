@@ -44,15 +44,5 @@ pub cut-of-spec : {M : Type 1} → statement M
 cut-of-spec =
     tie.close
     (tie.spec
-    (λ c κs. search needs)
-    returns
-    all-places-requires
-    place-requires
-    (λ c κs. search needs)
-    (λ c. search needs)
-    cut-at-requires
-    (λ c. search needs)
-    (λ c. search needs)
-    returns-2
-    returns-3
-    returns-4)
+    (λ c κs. search needs) returns all-places-requires place-requires (λ c κs. search needs) (λ c. search needs) cut-at-requires (λ c. search needs)
+    (λ c. search needs) returns-2 returns-3 returns-4)

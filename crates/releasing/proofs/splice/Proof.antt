@@ -26,19 +26,6 @@ pub splice-spec : {M : Type 1} → statement M
 splice-spec =
     tie.close
     (tie.spec
-    (λ c. search needs)
-    (λ c. search needs)
-    (λ c. search needs)
-    (λ c. search needs)
-    (λ c κs. search needs)
-    (λ c. search needs)
-    (λ c. search needs)
-    (λ c κs. search needs)
-    newest-requires
-    (λ c. search needs)
-    (λ c. search needs)
-    (λ c κs. search needs)
-    put-back-requires
-    (λ c. search needs)
-    (λ c. search needs)
-    returns)
+    (λ c. search needs) (λ c. search needs) (λ c. search needs) (λ c. search needs) (λ c κs. search needs) (λ c. search needs) (λ c. search needs)
+    (λ c κs. search needs) newest-requires (λ c. search needs) (λ c. search needs) (λ c κs. search needs) put-back-requires (λ c. search needs)
+    (λ c. search needs) returns)

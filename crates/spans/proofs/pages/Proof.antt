@@ -38,11 +38,4 @@ pub pages-spec : {M : Type 1} → statement M
 pages-spec =
     tie.close
     (tie.spec
-    returns
-    (λ c. search needs)
-    add-page-of
-    page-of-requires
-    page-of-requires-2
-    sub-result
-    add-result
-    returns-2)
+    returns (λ c. search needs) add-page-of page-of-requires page-of-requires-2 sub-result add-result returns-2)

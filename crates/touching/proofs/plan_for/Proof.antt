@@ -31,15 +31,5 @@ pub plan-for-spec : {M : Type 1} → statement M
 plan-for-spec =
     tie.close
     (tie.spec
-    (λ c. search needs)
-    (λ c. search needs)
-    (λ c κs. search needs)
-    returns
-    fit-requires
-    returns-2
-    (λ c. search needs)
-    (λ c. search needs)
-    returns-3
-    returns-4
-    returns-5
-    (λ c. search needs))
+    (λ c. search needs) (λ c. search needs) (λ c κs. search needs) returns fit-requires returns-2 (λ c. search needs) (λ c. search needs) returns-3
+    returns-4 returns-5 (λ c. search needs))

@@ -58,13 +58,4 @@ pub all-resident-spec : {M : Type 1} → statement M
 all-resident-spec =
     tie.close
     (tie.spec
-    Inv-loop
-    μ-loop
-    loop-holds
-    cast-frame-of
-    frame-of-requires
-    returns
-    add-page
-    loop-less
-    loop-again
-    returns-2)
+    Inv-loop μ-loop loop-holds cast-frame-of frame-of-requires returns add-page loop-less loop-again returns-2)

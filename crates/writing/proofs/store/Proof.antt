@@ -79,18 +79,5 @@ pub store-spec : {M : Type 1} → statement M
 store-spec =
     tie.close
     (tie.spec
-    Inv-loop
-    μ-loop
-    loop-holds
-    add-x
-    sub-part
-    part-requires
-    add-next
-    sub-write-part
-    part-write-part-start
-    part-write-part-end
-    write-part-requires
-    loop-less
-    loop-again
-    same-length
-    returns)
+    Inv-loop μ-loop loop-holds add-x sub-part part-requires add-next sub-write-part part-write-part-start part-write-part-end write-part-requires
+    loop-less loop-again same-length returns)

@@ -81,15 +81,5 @@ pub survey-spec : {M : Type 1} → statement M
 survey-spec =
     tie.close
     (tie.spec
-    Inv-loop
-    μ-loop
-    loop-holds
-    cast-look-checked
-    look-checked-requires
-    (λ c κs. search needs)
-    returns
-    add-absent
-    add-page
-    loop-less
-    loop-again
+    Inv-loop μ-loop loop-holds cast-look-checked look-checked-requires (λ c κs. search needs) returns add-absent add-page loop-less loop-again
     returns-2)

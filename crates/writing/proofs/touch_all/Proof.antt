@@ -83,18 +83,5 @@ pub touch-all-spec : {M : Type 1} → statement M
 touch-all-spec =
     tie.close
     (tie.spec
-    Inv-loop
-    μ-loop
-    loop-holds
-    cast-touch-next
-    touch-next-requires
-    add-next
-    loop-less
-    loop-again
-    same-length
-    same-length-2
-    same-length-3
-    same-length-4
-    same-length-5
-    same-length-6
-    returns)
+    Inv-loop μ-loop loop-holds cast-touch-next touch-next-requires add-next loop-less loop-again same-length same-length-2 same-length-3 same-length-4
+    same-length-5 same-length-6 returns)

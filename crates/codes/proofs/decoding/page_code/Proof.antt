@@ -30,11 +30,4 @@ pub page-code-spec : {M : Type 1} → statement M
 page-code-spec =
     tie.close
     (tie.spec
-    (λ c κs. search needs)
-    returns
-    (λ c κs. search needs)
-    returns-2
-    cast-t6
-    cast-t7
-    (λ c κs. search needs)
-    returns-3)
+    (λ c κs. search needs) returns (λ c κs. search needs) returns-2 cast-t6 cast-t7 (λ c κs. search needs) returns-3)

@@ -32,11 +32,4 @@ pub span-code-spec : {M : Type 1} → statement M
 span-code-spec =
     tie.close
     (tie.spec
-    (λ c κs. search needs)
-    returns
-    (λ c κs. search needs)
-    returns-2
-    cast-span-request
-    (λ c κs. search needs)
-    add-t11
-    returns-3)
+    (λ c κs. search needs) returns (λ c κs. search needs) returns-2 cast-span-request (λ c κs. search needs) add-t11 returns-3)

@@ -66,17 +66,5 @@ pub start-code-spec : {M : Type 1} → statement M
 start-code-spec =
     tie.close
     (tie.spec
-    (λ c κs. search needs)
-    returns
-    (λ c κs. search needs)
-    returns-2
-    (λ c κs. search needs)
-    returns-3
-    (λ c κs. search needs)
-    returns-4
-    cast-t7
-    cast-t8
-    cast-t9
-    cast-t10
-    (λ c κs. search needs)
-    returns-5)
+    (λ c κs. search needs) returns (λ c κs. search needs) returns-2 (λ c κs. search needs) returns-3 (λ c κs. search needs) returns-4 cast-t7 cast-t8
+    cast-t9 cast-t10 (λ c κs. search needs) returns-5)

@@ -88,33 +88,7 @@ pub parse-spec : {M : Type 1} → statement M
 parse-spec =
     tie.close
     (tie.spec
-    (λ c. search needs)
-    (λ c κs. search needs)
-    start-line-requires
-    returns
-    (λ c κs. search needs)
-    (λ c. search needs)
-    page-line-requires
-    returns-2
-    (λ c. search needs)
-    (λ c. search needs)
-    (λ c κs. search needs)
-    free-line-requires
-    returns-3
-    (λ c. search needs)
-    (λ c κs. search needs)
-    translate-line-requires
-    returns-4
-    (λ c. search needs)
-    (λ c κs. search needs)
-    read-line-requires
-    returns-5
-    (λ c. search needs)
-    (λ c κs. search needs)
-    write-line-requires
-    returns-6
-    (λ c. search needs)
-    (λ c κs. search needs)
-    list-line-requires
-    returns-7
-    returns-8)
+    (λ c. search needs) (λ c κs. search needs) start-line-requires returns (λ c κs. search needs) (λ c. search needs) page-line-requires returns-2
+    (λ c. search needs) (λ c. search needs) (λ c κs. search needs) free-line-requires returns-3 (λ c. search needs) (λ c κs. search needs)
+    translate-line-requires returns-4 (λ c. search needs) (λ c κs. search needs) read-line-requires returns-5 (λ c. search needs)
+    (λ c κs. search needs) write-line-requires returns-6 (λ c. search needs) (λ c κs. search needs) list-line-requires returns-7 returns-8)

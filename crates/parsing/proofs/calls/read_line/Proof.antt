@@ -62,20 +62,6 @@ pub read-line-spec : {M : Type 1} → statement M
 read-line-spec =
     tie.close
     (tie.spec
-    (λ c κs. search needs)
-    (λ c. search needs)
-    (λ c. search needs)
-    returns
-    number-after-blank-requires-2
-    (λ c. search needs)
-    (λ c. search needs)
-    returns-2
-    number-after-blank-requires-3
-    (λ c. search needs)
-    (λ c. search needs)
-    returns-3
-    returns-4
-    returns-5
-    (λ c. search needs)
-    (λ c. search needs)
-    returns-6)
+    (λ c κs. search needs) (λ c. search needs) (λ c. search needs) returns number-after-blank-requires-2 (λ c. search needs) (λ c. search needs)
+    returns-2 number-after-blank-requires-3 (λ c. search needs) (λ c. search needs) returns-3 returns-4 returns-5 (λ c. search needs)
+    (λ c. search needs) returns-6)

@@ -68,21 +68,6 @@ pub start-line-spec : {M : Type 1} → statement M
 start-line-spec =
     tie.close
     (tie.spec
-    (λ c κs. search needs)
-    (λ c. search needs)
-    (λ c. search needs)
-    returns
-    number-after-blank-requires-2
-    (λ c. search needs)
-    (λ c. search needs)
-    returns-2
-    number-after-blank-requires-3
-    (λ c. search needs)
-    (λ c. search needs)
-    returns-3
-    number-after-blank-requires-4
-    (λ c. search needs)
-    (λ c. search needs)
-    returns-4
-    returns-5
-    returns-6)
+    (λ c κs. search needs) (λ c. search needs) (λ c. search needs) returns number-after-blank-requires-2 (λ c. search needs) (λ c. search needs)
+    returns-2 number-after-blank-requires-3 (λ c. search needs) (λ c. search needs) returns-3 number-after-blank-requires-4 (λ c. search needs)
+    (λ c. search needs) returns-4 returns-5 returns-6)

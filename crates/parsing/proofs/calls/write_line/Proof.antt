@@ -40,17 +40,5 @@ pub write-line-spec : {M : Type 1} → statement M
 write-line-spec =
     tie.close
     (tie.spec
-    (λ c κs. search needs)
-    (λ c. search needs)
-    (λ c. search needs)
-    returns
-    number-after-blank-requires-2
-    (λ c. search needs)
-    (λ c. search needs)
-    returns-2
-    hex-count-requires
-    (λ c. search needs)
-    (λ c. search needs)
-    returns-3
-    (λ c. search needs)
-    returns-4)
+    (λ c κs. search needs) (λ c. search needs) (λ c. search needs) returns number-after-blank-requires-2 (λ c. search needs) (λ c. search needs)
+    returns-2 hex-count-requires (λ c. search needs) (λ c. search needs) returns-3 (λ c. search needs) returns-4)

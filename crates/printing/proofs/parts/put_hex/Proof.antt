@@ -86,23 +86,5 @@ pub put-hex-spec : {M : Type 1} → statement M
 put-hex-spec =
     tie.close
     (tie.spec
-    Inv-loop
-    μ-loop
-    loop-holds
-    shared-slice-read-b
-    glyph-of-requires
-    mul-out
-    add-out
-    slice-write-out
-    glyph-of-requires-2
-    mul-out-2
-    add-out-2
-    add-out-3
-    slice-write-out-2
-    add-i
-    loop-less
-    loop-again
-    mul-result
-    add-result
-    same-length
-    returns)
+    Inv-loop μ-loop loop-holds shared-slice-read-b glyph-of-requires mul-out add-out slice-write-out glyph-of-requires-2 mul-out-2 add-out-2 add-out-3
+    slice-write-out-2 add-i loop-less loop-again mul-result add-result same-length returns)

@@ -66,17 +66,5 @@ pub put-numbers-spec : {M : Type 1} → statement M
 put-numbers-spec =
     tie.close
     (tie.spec
-    Inv-loop
-    μ-loop
-    loop-holds
-    slice-aggregate-put
-    put-requires
-    mul-put-number
-    shared-slice-read-put-number
-    cast-put-number
-    put-number-requires
-    add-i
-    loop-less
-    loop-again
-    same-length
-    returns)
+    Inv-loop μ-loop loop-holds slice-aggregate-put put-requires mul-put-number shared-slice-read-put-number cast-put-number put-number-requires add-i
+    loop-less loop-again same-length returns)

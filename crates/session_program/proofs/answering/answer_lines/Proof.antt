@@ -34,16 +34,5 @@ pub answer-lines-spec : {M : Type 1} → statement M
 answer-lines-spec =
     tie.close
     (tie.spec
-    Inv-loop
-    μ-loop
-    (λ c. search needs)
-    (λ c κs. search needs)
-    sub-answer-line
-    part-answer-line-start
-    part-answer-line-end
-    (λ c κs. search needs)
-    (λ c κs. search needs)
-    loop-less
-    (λ c. search needs)
-    (λ c κs. search needs)
-    (λ c. search needs))
+    Inv-loop μ-loop (λ c. search needs) (λ c κs. search needs) sub-answer-line part-answer-line-start part-answer-line-end (λ c κs. search needs)
+    (λ c κs. search needs) loop-less (λ c. search needs) (λ c κs. search needs) (λ c. search needs))

@@ -44,18 +44,5 @@ pub keep-spec : {M : Type 1} → statement M
 keep-spec =
     tie.close
     (tie.spec
-    Inv-loop
-    μ-loop
-    (λ c. search needs)
-    (λ c. search needs)
-    least-requires
-    loop-holds
-    slice-read-input
-    sub-input
-    slice-write-input
-    add-i
-    loop-less
-    loop-again
-    sub-result
-    (λ c. search needs)
-    (λ c. search needs))
+    Inv-loop μ-loop (λ c. search needs) (λ c. search needs) least-requires loop-holds slice-read-input sub-input slice-write-input add-i loop-less
+    loop-again sub-result (λ c. search needs) (λ c. search needs))
