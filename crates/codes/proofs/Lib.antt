@@ -1,3 +1,1 @@
-pub mod Tested
-pub mod Lending
 pub mod Playing

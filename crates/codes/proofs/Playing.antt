@@ -12,9 +12,9 @@ use Rattle.requests.specs.Requests.{replied}
 use Rattle.serving.specs.Serves.{Serves}
 use Rattle.requests.specs.declared.Request.{Request}
 use Rattle.requests.specs.declared.Reply.{Reply}
-use Rattle.codes.specs.declared.Parts.{Parts}
-use Rattle.codes.specs.declared.Code.{Code}
-use Rattle.codes.specs.declared.Code.the-variants.{Call, Unreadable}
+use Rattle.decoding.specs.declared.Parts.{Parts}
+use Rattle.decoding.specs.declared.Code.{Code}
+use Rattle.decoding.specs.declared.Code.the-variants.{Call, Unreadable}
 use Rattle.requests.specs.Codes.{encoded}
 use Rattle.codes.specs.Codes.{codeAt}
 use Rattle.codes.specs.Plays.{Desk, part, withPart, withReply, called, Calls, PlayedOne, Turns}

@@ -18,9 +18,9 @@ use Rattle.requests.specs.Requests.{requested}
 use Rattle.serving.specs.Steps.{RoomFor, whole-step, Stands, serve-follows}
 use Rattle.requests.specs.declared.Request.{Request}
 use Rattle.requests.specs.declared.Request.the-variants.{Start, Page, Free, Translate, Read, Write, List as Listing}
-use Rattle.codes.specs.declared.Parts.{Parts}
-use Rattle.codes.specs.declared.Code.{Code}
-use Rattle.codes.specs.declared.Code.the-variants.{Call, Unreadable}
+use Rattle.decoding.specs.declared.Parts.{Parts}
+use Rattle.decoding.specs.declared.Code.{Code}
+use Rattle.decoding.specs.declared.Code.the-variants.{Call, Unreadable}
 use Rattle.codes.specs.Codes.{codeAt}
 use Rattle.codes.specs.Plays.{Desk, called, laid, Played, playOne, plays, Turns}
 use Rattle.codes.specs.Plays.Turns.{none as no-turn, skip, turn}

@@ -9,9 +9,9 @@ use Rattle.promise.specs.Did.{Did}
 use Rattle.demands.specs.History.{Event}
 use Rattle.requests.specs.Requests.{requested, bytesInto, recordsInto}
 use Rattle.requests.specs.declared.Request.{Request}
-use Rattle.codes.specs.declared.Parts.{Parts}
-use Rattle.codes.specs.declared.Code.{Code}
-use Rattle.codes.specs.declared.Code.the-variants.{Call, Unreadable}
+use Rattle.decoding.specs.declared.Parts.{Parts}
+use Rattle.decoding.specs.declared.Code.{Code}
+use Rattle.decoding.specs.declared.Code.the-variants.{Call, Unreadable}
 use Rattle.requests.specs.Codes.{encoded}
 use Rattle.codes.specs.Codes.{codeAt, unreadable}
 

@@ -9,9 +9,9 @@ use Rattle.demands.specs.History.{Event}
 use Rattle.demands.specs.Demands.{machineAt, Demand3}
 use Rattle.serving.specs.Steps.{RoomFor, Stands}
 use Rattle.requests.specs.declared.Request.the-variants as request-is
-use Rattle.codes.specs.declared.Parts.{Parts}
-use Rattle.codes.specs.declared.Code.{Code}
-use Rattle.codes.specs.declared.Code.the-variants.{Call, Unreadable}
+use Rattle.decoding.specs.declared.Parts.{Parts}
+use Rattle.decoding.specs.declared.Code.{Code}
+use Rattle.decoding.specs.declared.Code.the-variants.{Call, Unreadable}
 use Rattle.codes.specs.Codes.{codeAt}
 use Rattle.codes.specs.Plays.{Desk, Played, plays, Turns}
 

@@ -1,9 +1,8 @@
 // Plays a lent list of encoded calls on lent memory: five numbers a call, three an answer.
-mod decoding;
-
+use decoding::Code;
+use decoding::decode;
 use memory::Head;
 use requests::Answer;
-use requests::Request;
 use requests::encode;
 use serving::serve;
 ghost use mathlib.Core.Path.{_≡_};
@@ -11,23 +10,9 @@ ghost use Prim.Native.Nat.{min, _/_};
 ghost use lib.ListN.{length};
 ghost use Rattle.memory.specs.Memory.{memory};
 ghost use Rattle.requests.specs.Codes.{numbersOf};
-ghost use Rattle.codes.specs.Codes.{decoded};
+ghost use Rattle.decoding.specs.Calls.{decoded};
 ghost use Rattle.codes.specs.Plays.{PlayedOne};
 ghost use Rattle.codes.specs.Promise.{Plays};
-
-// The part of the byte buffer and the part of the records that a call is lent.
-pub struct Parts {
-    pub from: usize,
-    pub to: usize,
-    pub first: usize,
-    pub last: usize,
-}
-
-// What five numbers say.
-pub enum Code {
-    Call(Request, Parts),
-    Unreadable,
-}
 
 // Puts an answer where three numbers stand.
 fn put(reply: &mut [u64], a: Answer)
@@ -69,7 +54,7 @@ fn play_one(
         (now (ram .exit)))
         (now (reply .exit)) (now (bytes .exit)) (now (records .exit)) ⌝ }
 {
-    let code = decoding::decode(kind, a, b, c, d, bytes.len(), records.len());
+    let code = decode(kind, a, b, c, d, bytes.len(), records.len());
     let Code::Call(request, parts) = code else {
         put(
             reply,

@@ -25,12 +25,15 @@ abbrev μ-loop : tie.MeasureT-loop
 abbrev entry : tie.In-loop Inv-loop μ-loop → tie.Start Inv-loop μ-loop
 entry c = c .before .before .before .before .before .before .before .before .before .before .before .before .before .before .before
 
--- the turn that a call was made in, and the call's end
+-- the turn that a call was made in, the call, and where the index is back from it
 abbrev turn : tie.After-play-one Inv-loop μ-loop → tie.In-loop Inv-loop μ-loop
 turn c = c .before .before .before .before .before .before .before .before .before .before .before .before .before .before .before .before .before
 
+abbrev index : tie.After-slice-known22 Inv-loop μ-loop → tie.After-index Inv-loop μ-loop
+index c = c .before .before .before .before .before .before .before .before .before .before .before .before .before .before .before
+
 abbrev called : tie.After-slice-known22 Inv-loop μ-loop → tie.After-play-one Inv-loop μ-loop
-called c = c .before .before .before .before .before .before .before .before .before .before .before .before .before .before .before .before .before .before .before .before .before .before
+called c = index c .before .before .before .before .before .before .before
 
 -- the next code lies inside the list, and so does its reply; their bytes are numbers of 64 bits
 pub record Bounds (c : tie.In-loop Inv-loop μ-loop) : Type 0 where
@@ -55,7 +58,7 @@ play-one-requires c κs =
     ∙ (omega arith)
 
 add-j : tie.Need-add-j Inv-loop μ-loop
-add-j c = let i = bounds (turn (called c)) in omega (arith, i .code, i .codes-small)
+add-j c = let i = bounds (turn (called c)) in omega arith
 
 loop-less : tie.Need-loop-less Inv-loop μ-loop
 loop-less c = omega (arith, turn (called c) .loop-test .taken)
@@ -98,24 +101,44 @@ pub play-spec : {M : Type 1} → statement M
 play-spec =
     tie.close
     (tie.spec
-    Inv-loop μ-loop (λ c κs. search needs) loop-holds (λ c. let i = bounds c in omega (arith, i .code, i .reply, i .codes-small, i .replies-small))
-    (λ c. let i = bounds c in omega (arith, i .code, i .reply, i .codes-small, i .replies-small))
-    (λ c. let i = bounds c in omega (arith, i .code, i .reply, i .codes-small, i .replies-small))
-    (λ c. let i = bounds c in omega (arith, i .code, i .reply, i .codes-small, i .replies-small))
-    (λ c. let i = bounds (c .before) in omega (arith, i .code, i .reply, i .codes-small, i .replies-small))
-    (λ c. let i = bounds (c .before) in omega (arith, i .code, i .reply, i .codes-small, i .replies-small))
-    (λ c. let i = bounds (c .before) in omega (arith, i .code, i .reply, i .codes-small, i .replies-small))
-    (λ c. let i = bounds (c .before .before) in omega (arith, i .code, i .reply, i .codes-small, i .replies-small))
-    (λ c. let i = bounds (c .before .before) in omega (arith, i .code, i .reply, i .codes-small, i .replies-small))
-    (λ c. let i = bounds (c .before .before) in omega (arith, i .code, i .reply, i .codes-small, i .replies-small)) shared-slice-read-play-one-3
-    add-play-one-3 mul-play-one-4
-    (λ c. let i = bounds (c .before .before .before .before) in omega (arith, i .code, i .reply, i .codes-small, i .replies-small))
-    (λ c. let i = bounds (c .before .before .before .before) in omega (arith, i .code, i .reply, i .codes-small, i .replies-small))
-    (λ c. let i = bounds (c .before .before .before .before) in omega (arith, i .code, i .reply, i .codes-small, i .replies-small))
-    (λ c. let i = bounds (c .before .before .before .before .before) in omega (arith, i .code, i .reply, i .codes-small, i .replies-small))
-    (λ c. let i = bounds (c .before .before .before .before .before) in omega (arith, i .code, i .reply, i .codes-small, i .replies-small))
-    (λ c. let i = bounds (c .before .before .before .before .before) in omega (arith, i .code, i .reply, i .codes-small, i .replies-small))
-    (λ c. let i = bounds (c .before .before .before .before .before) in omega (arith, i .code, i .reply, i .codes-small, i .replies-small))
-    (λ c. let i = bounds (c .before .before .before .before .before) in omega (arith, i .code, i .reply, i .codes-small, i .replies-small))
-    play-one-requires add-j loop-less loop-again (λ c. search needs) (λ c. search needs) (λ c. search needs) (λ c. search needs) (λ c. search needs)
-    (λ c. search needs) (λ c. search needs) (λ c. search needs) (λ c. search needs) (λ c. search needs) (λ c. search needs) returns)
+    Inv-loop
+    μ-loop
+    (λ c κs. search needs)
+    loop-holds
+    (λ c. let i = bounds c in omega arith)
+    (λ c. let i = bounds c in omega arith)
+    (λ c. let i = bounds c in omega arith)
+    (λ c. let i = bounds c in omega arith)
+    (λ c. let i = bounds (c .before) in omega arith)
+    (λ c. let i = bounds (c .before) in omega arith)
+    (λ c. let i = bounds (c .before) in omega arith)
+    (λ c. let i = bounds (c .before .before) in omega arith)
+    (λ c. let i = bounds (c .before .before) in omega arith)
+    (λ c. let i = bounds (c .before .before) in omega arith)
+    (λ c. let i = bounds (c .before .before .before) in omega arith)
+    (λ c. let i = bounds (c .before .before .before) in omega arith)
+    (λ c. let i = bounds (c .before .before .before) in omega arith)
+    (λ c. let i = bounds (c .before .before .before .before) in omega arith)
+    (λ c. let i = bounds (c .before .before .before .before) in omega arith)
+    (λ c. let i = bounds (c .before .before .before .before) in omega arith)
+    (λ c. let i = bounds (c .before .before .before .before .before) in omega arith)
+    (λ c. let i = bounds (c .before .before .before .before .before) in omega arith)
+    (λ c. let i = bounds (c .before .before .before .before .before) in omega arith)
+    (λ c. let i = bounds (c .before .before .before .before .before) in omega arith)
+    (λ c. let i = bounds (c .before .before .before .before .before) in omega arith)
+    play-one-requires
+    add-j
+    loop-less
+    loop-again
+    (λ c. search needs)
+    (λ c. search needs)
+    (λ c. search needs)
+    (λ c. search needs)
+    (λ c. search needs)
+    (λ c. search needs)
+    (λ c. search needs)
+    (λ c. search needs)
+    (λ c. search needs)
+    (λ c. search needs)
+    (λ c. search needs)
+    returns)

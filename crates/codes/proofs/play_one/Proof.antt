@@ -4,7 +4,7 @@ use Prim.Native.Nat.{ℕ}
 use native.Mathlib.Omega.{arith}
 use lib.ListN.{length}
 use Rattle.codes.specs.Plays.{PlayedOne}
-use Rattle.codes.proofs.Lending.{Inside, decoded-inside}
+use Rattle.decoding.specs.Lending.{Inside, decoded-inside}
 use Rattle.codes.proofs.Playing.{call-played}
 use borrow.Author.Needs.{needs}
 use borrow.Rule.Slice.PartMut.{mid-len}
@@ -18,8 +18,15 @@ entry c = c .before .before .before .before .before .before .before .before .bef
 abbrev known : tie.After-serve → tie.After-known-told
 known c = c .before .before .before .before .before .before .before .before .before .before .before
 
+-- back from the step: the index, then the bytes
+abbrev index : tie.After-put-arg2 → tie.After-index
+index c = c .before .before .before .before .before .before .before .before .before .before .before .before .before .before .before .before .before
+
+abbrev bytes : tie.After-put-arg2 → tie.After-bytes
+bytes c = index c .before .before .before .before
+
 abbrev served : tie.After-put-arg2 → tie.After-serve
-served c = c .before .before .before .before .before .before .before .before .before .before .before .before .before .before .before .before .before .before .before .before .before .before
+served c = bytes c .before
 
 -- the parts that the decoded call is lent
 lent : (c : tie.After-known-told)
@@ -64,11 +71,11 @@ put-requires-2 c κs = entry (known (served (c .before))) .pre
 returns-2 : tie.Need-returns-2
 returns-2 c =
     let put = c .before .before in
-    let done = served (put .before .before) in
-    let t = known done in
+    let made = put .before .before in
+    let t = known (served made) in
     rw (sym (t .before .before .before .decode .ensures) ∙ t .before .code .given .1)
-    (call-played _ _ _ _ _ _ _ _ _ _ (done .serve .ensures)
-    (put .put2 .ensures ∙ put .before .encode .ensures _ _ (put .before .before .before .before .before .before .before .before .before .before .before .before .before .before .before .before .before .before .before .before .before .before .before .bytes .given .0 ∙ mid-len _ _ _ (lent t .bytes-fit))))
+    (call-played _ _ _ _ _ _ _ _ _ _ (served made .serve .ensures)
+    (put .put2 .ensures ∙ put .before .encode .ensures _ _ (bytes made .bytes .given .0 ∙ mid-len _ _ _ (lent t .bytes-fit))))
 
 pub play-one-spec : {M : Type 1} → statement M
 play-one-spec =

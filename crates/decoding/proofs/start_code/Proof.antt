@@ -1,9 +1,9 @@
 -- The tests are those of `startCode`, in its order.
 use Rattle.sequence.specs.Tests.{failed, held}
-use Rattle.codes.proofs.Tested.{small}
+use Rattle.decoding.proofs.Tested.{small}
 use borrow.Author.Needs.{needs}
-use Rattle.codes.proofs.decoding.start_code.Statement.{statement}
-use Rattle.codes.proofs.decoding.start_code.Tie as tie
+use Rattle.decoding.proofs.start_code.Statement.{statement}
+use Rattle.decoding.proofs.start_code.Tie as tie
 
 returns : tie.Need-returns
 returns c = rw (failed (c .before .is-small .ensures) (c .if1 .taken))

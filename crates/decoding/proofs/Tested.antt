@@ -9,7 +9,7 @@ use mir.Syntax.{w32}
 use mir.Val.{Fits}
 use Rattle.sequence.specs.Tests.{held}
 use Rattle.machine.specs.Laws.Sizes.{both}
-use Rattle.codes.specs.Codes.{fits, inside}
+use Rattle.decoding.specs.Calls.{fits, inside}
 
 -- a number that passed has 32 bits
 pub small : {r : Bool} {n : ℕ} → r ≡ fits n → not r ≡ false → Fits w32 n

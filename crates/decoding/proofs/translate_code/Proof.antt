@@ -1,9 +1,9 @@
 -- The test is that of `translateCode`.
 use Rattle.sequence.specs.Tests.{failed, held}
-use Rattle.codes.proofs.Tested.{small}
+use Rattle.decoding.proofs.Tested.{small}
 use borrow.Author.Needs.{needs}
-use Rattle.codes.proofs.decoding.translate_code.Statement.{statement}
-use Rattle.codes.proofs.decoding.translate_code.Tie as tie
+use Rattle.decoding.proofs.translate_code.Statement.{statement}
+use Rattle.decoding.proofs.translate_code.Tie as tie
 
 returns : tie.Need-returns
 returns c = rw (failed (c .before .is-small .ensures) (c .if1 .taken))

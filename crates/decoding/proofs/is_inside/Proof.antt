@@ -1,7 +1,7 @@
 -- The two tests are the two sides of `inside`.
 use borrow.Author.Tests.{lt-leb, le-leb}
-use Rattle.codes.proofs.decoding.is_inside.Statement.{statement}
-use Rattle.codes.proofs.decoding.is_inside.Tie as tie
+use Rattle.decoding.proofs.is_inside.Statement.{statement}
+use Rattle.decoding.proofs.is_inside.Tie as tie
 
 returns : tie.Need-returns
 returns c = rw (lt-leb _ _ (c .if1 .taken))

@@ -1,9 +1,9 @@
 -- By the kind, in the order of `decoded`.
 use borrow.Author.Tests.{ne-eqb}
-use Rattle.codes.specs.Codes.{decoded}
+use Rattle.decoding.specs.Calls.{decoded}
 use borrow.Author.Needs.{needs}
-use Rattle.codes.proofs.decoding.decode.Statement.{statement}
-use Rattle.codes.proofs.decoding.decode.Tie as tie
+use Rattle.decoding.proofs.decode.Statement.{statement}
+use Rattle.decoding.proofs.decode.Tie as tie
 
 returns : tie.Need-returns
 unfolding decoded

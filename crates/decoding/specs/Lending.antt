@@ -9,10 +9,10 @@ use Rattle.machine.specs.Laws.Sizes.{both}
 use Rattle.machine.specs.declared.PageCall.the-variants.{Mark, Drop, Touch, Look, Release}
 use Rattle.requests.specs.declared.Request.{Request}
 use Rattle.requests.specs.declared.Request.the-variants.{Start, Page, Free, Translate, List}
-use Rattle.codes.specs.declared.Parts.{Parts}
-use Rattle.codes.specs.declared.Code.{Code}
-use Rattle.codes.specs.declared.Code.the-variants.{Call, Unreadable}
-use Rattle.codes.specs.Codes.{fits, inside, noParts, byteParts, recordParts, spanRequest, decoded}
+use Rattle.decoding.specs.declared.Parts.{Parts}
+use Rattle.decoding.specs.declared.Code.{Code}
+use Rattle.decoding.specs.declared.Code.the-variants.{Call, Unreadable}
+use Rattle.decoding.specs.Calls.{fits, inside, noParts, byteParts, recordParts, spanRequest, decoded}
 
 pub record Inside (p : Parts) (wholeBytes wholeRecords : ℕ) : Type 0 where
   pub from-first : p .from ≤ p .to

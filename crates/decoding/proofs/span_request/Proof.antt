@@ -1,7 +1,7 @@
 -- By the test of the kind.
 use borrow.Author.Tests.{eq-eqb, ne-eqb}
-use Rattle.codes.proofs.decoding.span_request.Statement.{statement}
-use Rattle.codes.proofs.decoding.span_request.Tie as tie
+use Rattle.decoding.proofs.span_request.Statement.{statement}
+use Rattle.decoding.proofs.span_request.Tie as tie
 
 returns : tie.Need-returns
 returns c = rw (eq-eqb _ _ (c .if1 .taken))

@@ -1,12 +1,24 @@
-// Five numbers as a call.
-use crate::Code;
-use crate::Parts;
+// Five numbers as a call, and the parts of the buffers that it is lent.
 use machine::PageCall;
 use requests::Request;
 ghost use mathlib.Core.Bool.{_&&_};
 ghost use mathlib.Core.Path.{_≡_};
 ghost use Prim.Native.Nat.{_≤_};
-ghost use Rattle.codes.specs.Codes.{fits, inside, noParts, startCode, pageCode, translateCode, spanRequest, spanCode, listCode, decoded};
+ghost use Rattle.decoding.specs.Calls.{fits, inside, noParts, startCode, pageCode, translateCode, spanRequest, spanCode, listCode, decoded};
+
+// The part of the byte buffer and the part of the records that a call is lent.
+pub struct Parts {
+    pub from: usize,
+    pub to: usize,
+    pub first: usize,
+    pub last: usize,
+}
+
+// What five numbers say.
+pub enum Code {
+    Call(Request, Parts),
+    Unreadable,
+}
 
 // Whether it is a number of 32 bits.
 fn is_small(n: u64) -> bool
@@ -126,15 +138,7 @@ fn list_code(i: u64, first: usize, n: usize, whole: usize) -> Code
     )
 }
 
-pub(crate) fn decode(
-    kind: u64,
-    a: u64,
-    b: u64,
-    c: u64,
-    d: u64,
-    bytes: usize,
-    records: usize,
-) -> Code
+pub fn decode(kind: u64, a: u64, b: u64, c: u64, d: u64, bytes: usize, records: usize) -> Code
     ensures { λ r. ⌜ r ≡ decoded kind a b c d bytes records ⌝ }
 {
     match kind {
