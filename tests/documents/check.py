@@ -29,7 +29,7 @@ OURS = "tests/documents"  # its lists of words are no source of names
 IN_CRATES = ("specs", "src", "proofs", "must-fail")
 
 # Words in backticks that are no names of ours.
-NO_NAMES = {"endbr64"}
+NO_NAMES = {"endbr64", "tie.spec"}
 # Names that docs/CHANGES.md tells of and that are gone: another document or a source that has one is told.
 GONE = {"corwystal_free", "corwystal_board_free", "Pager::free"}
 

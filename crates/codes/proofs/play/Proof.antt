@@ -101,44 +101,18 @@ pub play-spec : {M : Type 1} → statement M
 play-spec =
     tie.close
     (tie.spec
-    Inv-loop
-    μ-loop
-    (λ c κs. search needs)
-    loop-holds
-    (λ c. let i = bounds c in omega arith)
-    (λ c. let i = bounds c in omega arith)
-    (λ c. let i = bounds c in omega arith)
-    (λ c. let i = bounds c in omega arith)
-    (λ c. let i = bounds (c .before) in omega arith)
-    (λ c. let i = bounds (c .before) in omega arith)
-    (λ c. let i = bounds (c .before) in omega arith)
-    (λ c. let i = bounds (c .before .before) in omega arith)
-    (λ c. let i = bounds (c .before .before) in omega arith)
-    (λ c. let i = bounds (c .before .before) in omega arith)
-    (λ c. let i = bounds (c .before .before .before) in omega arith)
-    (λ c. let i = bounds (c .before .before .before) in omega arith)
-    (λ c. let i = bounds (c .before .before .before) in omega arith)
-    (λ c. let i = bounds (c .before .before .before .before) in omega arith)
-    (λ c. let i = bounds (c .before .before .before .before) in omega arith)
+    Inv-loop μ-loop (λ c κs. search needs) loop-holds (λ c. let i = bounds c in omega arith) (λ c. let i = bounds c in omega arith)
+    (λ c. let i = bounds c in omega arith) (λ c. let i = bounds c in omega arith) (λ c. let i = bounds (c .before) in omega arith)
+    (λ c. let i = bounds (c .before) in omega arith) (λ c. let i = bounds (c .before) in omega arith)
+    (λ c. let i = bounds (c .before .before) in omega arith) (λ c. let i = bounds (c .before .before) in omega arith)
+    (λ c. let i = bounds (c .before .before) in omega arith) (λ c. let i = bounds (c .before .before .before) in omega arith)
+    (λ c. let i = bounds (c .before .before .before) in omega arith) (λ c. let i = bounds (c .before .before .before) in omega arith)
+    (λ c. let i = bounds (c .before .before .before .before) in omega arith) (λ c. let i = bounds (c .before .before .before .before) in omega arith)
     (λ c. let i = bounds (c .before .before .before .before) in omega arith)
     (λ c. let i = bounds (c .before .before .before .before .before) in omega arith)
     (λ c. let i = bounds (c .before .before .before .before .before) in omega arith)
     (λ c. let i = bounds (c .before .before .before .before .before) in omega arith)
     (λ c. let i = bounds (c .before .before .before .before .before) in omega arith)
-    (λ c. let i = bounds (c .before .before .before .before .before) in omega arith)
-    play-one-requires
-    add-j
-    loop-less
-    loop-again
-    (λ c. search needs)
-    (λ c. search needs)
-    (λ c. search needs)
-    (λ c. search needs)
-    (λ c. search needs)
-    (λ c. search needs)
-    (λ c. search needs)
-    (λ c. search needs)
-    (λ c. search needs)
-    (λ c. search needs)
-    (λ c. search needs)
-    returns)
+    (λ c. let i = bounds (c .before .before .before .before .before) in omega arith) play-one-requires add-j loop-less loop-again (λ c. search needs)
+    (λ c. search needs) (λ c. search needs) (λ c. search needs) (λ c. search needs) (λ c. search needs) (λ c. search needs) (λ c. search needs)
+    (λ c. search needs) (λ c. search needs) (λ c. search needs) returns)
