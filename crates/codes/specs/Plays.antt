@@ -2,7 +2,7 @@
 use mathlib.Core.Path.{_≡_}
 use mathlib.Core.List.{List, [], _∷_, _++_}
 use Prim.Native.Nat.{ℕ, zero, suc, _+_, _-_, _*_}
-use lib.ListN.{length, take, drop}
+use lib.ListN.{take, drop}
 use Rattle.machine.specs.Machine.{State, Lent, Call as MachineCall, Answer, answer, after}
 use Rattle.memory.specs.Memory.{Memory, lengths}
 use Rattle.promise.specs.Did.{Did}

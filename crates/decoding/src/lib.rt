@@ -1,9 +1,7 @@
 // Five numbers as a call, and the parts of the buffers that it is lent.
 use machine::PageCall;
 use requests::Request;
-ghost use mathlib.Core.Bool.{_&&_};
 ghost use mathlib.Core.Path.{_≡_};
-ghost use Prim.Native.Nat.{_≤_};
 ghost use Rattle.decoding.specs.Calls.{fits, inside, noParts, startCode, pageCode, translateCode, spanRequest, spanCode, listCode, decoded};
 
 // The part of the byte buffer and the part of the records that a call is lent.

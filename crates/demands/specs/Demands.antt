@@ -3,7 +3,7 @@ use mathlib.Core.Path.{_≡_}
 use mathlib.Core.Bool.{true}
 use mathlib.Core.List.{List, [], _∷_, _++_, map}
 use mathlib.Core.Option.{some}
-use Prim.Native.Nat.{ℕ, _+_, _-_, _*_, _≤_, _<_}
+use Prim.Native.Nat.{ℕ, _+_, _-_, _≤_, _<_}
 use lib.ListN.{length, getD}
 use Rattle.sequence.specs.Sums.{sum, sumFrom}
 use Rattle.machine.specs.declared.Region.{Region}
@@ -11,8 +11,8 @@ use Rattle.machine.specs.declared.Copied.{Copied}
 use Rattle.machine.specs.declared.Copied.the-variants as copied-is
 use Rattle.machine.specs.declared.Listed.{Listed}
 use Rattle.machine.specs.declared.Listed.the-variants as listed-is
-use Rattle.machine.specs.Machine.{State, Lent, Call, release, free, translate, read, write, list, asked, ramAt, withRam, recordsOf}
-use Rattle.machine.specs.Machine.{Answer, done, at, bytes, frames, regions, answers, after, afterAll}
+use Rattle.machine.specs.Machine.{State, Lent, Call, release, free, translate, read, write, list, asked, ramAt, withRam, recordsOf, Answer, done, at, bytes}
+use Rattle.machine.specs.Machine.{frames, regions, answers, after, afterAll}
 use Rattle.machine.specs.Claims.{residentPages, timesFree, timesHeld, isRefused, Address, Same, Spared}
 use Rattle.memory.specs.Memory.{Memory, sizesOf, lengths}
 use Rattle.promise.specs.Did.{Exactly, Tables, Did}

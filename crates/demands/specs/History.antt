@@ -4,7 +4,7 @@ use mathlib.Core.Bool.{Bool, true, false}
 use mathlib.Core.List.{List, [], _∷_, _++_, map}
 use mathlib.Core.Option.{some}
 use Prim.Native.Nat.{ℕ, _≤_}
-use lib.ListN.{length, take, drop}
+use lib.ListN.{take, drop}
 use Rattle.machine.specs.Machine.{State, Lent, Call, Uses, uses, Lending, lendsNone, lends, facts, Answer, done}
 use Rattle.memory.specs.Memory.{Memory, memory, lengths}
 use Rattle.promise.specs.Did.{Room, Did}

@@ -2,8 +2,8 @@
 use mathlib.Core.Path.{_≡_, refl}
 use mathlib.Core.List.{List, [], _∷_, _++_}
 use lib.ListN.{replicate}
-use Rattle.machine.specs.Machine.{sizes, Lent, Call, start, mark, drop, touch, look, release, free, translate, read, write, list, Answer, done, old, new, resident}
-use Rattle.machine.specs.Machine.{absent, pages, frames, at, bytes, regions, refused, refusedAfter}
+use Rattle.machine.specs.Machine.{sizes, Lent, Call, start, mark, drop, touch, look, release, free, translate, read, write, list, Answer, done, old, new}
+use Rattle.machine.specs.Machine.{resident, absent, pages, frames, at, bytes, regions, refused, refusedAfter}
 use Rattle.examples.specs.Session.{all, played}
 
 abbrev says : List Call → List Answer → Type 0

@@ -1,17 +1,16 @@
 -- Document 01's session, finds and sizes, by computing from the definitions.
 use mathlib.Core.Path.{_≡_, refl}
-use mathlib.Core.Bool.{Bool, false, true}
+use mathlib.Core.Bool.{Bool, false}
 use mathlib.Core.List.{List, [], _∷_, _++_, map}
 use mathlib.Core.Option.{Option, none, some}
 use Prim.Native.Nat.{ℕ, suc}
 use lib.Dec.{eqb}
-use lib.ListN.{replicate, take, drop as rest}
+use lib.ListN.{replicate}
 use Rattle.sequence.specs.Lists.{tabulate}
 use Rattle.places.specs.Places.{lastBelow, wordsRead, size}
-use Rattle.machine.specs.Machine.{Sizes, sizes, State, Lent, unstarted, Call, start, mark, drop, touch, look, release, free, translate, read, write, list, Answer}
-use Rattle.machine.specs.Machine.{done, old, new, resident, absent, pages, frames, at, bytes, regions, refused, refusedAfter, answers, afterAll, step, asked}
-use Rattle.machine.specs.Machine.{accepted, sizesOk, isPageSize, enough, startIn, frameIn, firstAbsence, anyOutside, countAbsent, touchAll, stored}
-use Rattle.machine.specs.Machine.{untilStart, records}
+use Rattle.machine.specs.Machine.{sizes, Lent, unstarted, Call, start, mark, drop, touch, look, release, Answer, done, old, new, absent, pages, at, refused}
+use Rattle.machine.specs.Machine.{refusedAfter, answers, afterAll, step, asked, accepted, sizesOk, isPageSize, enough, startIn, frameIn, firstAbsence}
+use Rattle.machine.specs.Machine.{anyOutside, countAbsent, touchAll, stored, untilStart, records}
 
 -- every buffer as long as it may ever have to be
 abbrev pub all : Lent

@@ -23,23 +23,23 @@ abbrev pub isDigit : ℕ → Bool
 isDigit c = leb 48 c && leb c 57
 
 -- a number taken from the front of a line, and what follows it
-pub data Taken : Type 0 where
-  nothing : Taken
-  number : (value : ℕ) (rest : List ℕ) → Taken
+pub data FieldTaken : Type 0 where
+  nothing : FieldTaken
+  number : (value : ℕ) (rest : List ℕ) → FieldTaken
 
 -- up to k more digits after a number; one digit more is too many
-unfoldable pub digitsAfter : ℕ → ℕ → List ℕ → Taken
+unfoldable pub digitsAfter : ℕ → ℕ → List ℕ → FieldTaken
 digitsAfter k v [] = number v []
 digitsAfter zero v (c ∷ cs) = cond (isDigit c) nothing (number v (c ∷ cs))
 digitsAfter (suc k) v (c ∷ cs) = let more = digitsAfter k (10 * v + (c - 48)) cs in cond (isDigit c) more (number v (c ∷ cs))
 
 -- "a number of more than 9 digits" is none
-abbrev pub numberAt : List ℕ → Taken
+abbrev pub numberAt : List ℕ → FieldTaken
 numberAt [] = nothing
 numberAt (c ∷ cs) = cond (isDigit c) (digitsAfter 8 (c - 48) cs) nothing
 
 -- "Words stand one space apart": one blank, then a number
-abbrev pub fieldAt : List ℕ → Taken
+abbrev pub fieldAt : List ℕ → FieldTaken
 fieldAt [] = nothing
 fieldAt (c ∷ cs) = cond (eqb c 32) (numberAt cs) nothing
 

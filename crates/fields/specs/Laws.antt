@@ -14,8 +14,7 @@ use Rattle.fields.specs.declared.Field.{Field}
 use Rattle.fields.specs.declared.Field.the-variants as field-is
 use Rattle.fields.specs.declared.Bytes.{Bytes}
 use Rattle.fields.specs.declared.Bytes.the-variants.{Count, Wrong}
-use Rattle.fields.specs.Fields.{begins, isDigit, Taken, nothing, number, digitsAfter, numberAt, fieldAt, Takes}
-use Rattle.fields.specs.Fields.{allHex, isBytes, hexCount, hexOf}
+use Rattle.fields.specs.Fields.{begins, isDigit, FieldTaken, nothing, number, digitsAfter, numberAt, fieldAt, Takes, allHex, isBytes, hexCount, hexOf}
 
 -- ---- a place in a line
 
@@ -64,7 +63,7 @@ module _ (line : List ℕ) where
   Hex n = (2 * n ≤ length line) × (allHex (hexOf line n) ≡ true)
 
   -- what a number leaves
-  abbrev pub Left : Taken → Type 0
+  abbrev pub Left : FieldTaken → Type 0
   Left nothing = Unit
   Left (number v rest) = Ends rest
 

@@ -5,17 +5,16 @@ use mathlib.Core.List.{List}
 use Prim.Native.Nat.{ℕ, _+_, _-_, _*_, _/_, _≤_, _<_}
 use native.Mathlib.Nat.{mul-le-mul-right, div-mul-le-self}
 use native.Mathlib.Omega.{arith}
-use lib.ListN.{length, drop}
+use lib.ListN.{length}
 use Rattle.machine.specs.Machine.{places, placeOf, sizesOk, State, recordsOf}
 use Rattle.machine.specs.Laws.Sizes.{fit}
-use Rattle.machine.specs.declared.Region.{Region}
-use Rattle.machine.specs.declared.Listed.the-variants.{Regions, Refused}
+use Rattle.machine.specs.declared.Listed.the-variants.{Regions}
 use Rattle.memory.specs.Memory.{Memory, memory, sizesOf}
 use Rattle.memory.specs.declared.Head.{Head}
 use Rattle.promise.specs.Holds.{Holds}
 use Rattle.promise.specs.Filled.{recordsIn, recordsFilled, ListDid}
 use Rattle.laws.specs.Models.{lentTo, checkOf}
-use Rattle.laws.specs.Checking.{Ready, ready}
+use Rattle.laws.specs.Checking.{CheckPassed, ready}
 use Rattle.laws.specs.Finds.{index-passes}
 use Rattle.listing.specs.Listing.{recordsBelow, list-refused, list-short, list-filled}
 use Rattle.listing.specs.declared.Surveyed.{Surveyed}
@@ -24,7 +23,7 @@ use Rattle.listing.specs.Steps.{Indexed, Counted, Many, Tellable, Survey
 -- ---- a check that passed
 
 module _ (h : Head) (index count i no : ℕ) (checked : no ≡ checkOf h (lentTo index count) i true) (passes : no ≡ 0) where
-  is-ready : Ready h (lentTo index count) i true
+  is-ready : CheckPassed h (lentTo index count) i true
   is-ready = ready h (lentTo index count) i true (sym checked ∙ passes)
 
   pub sizes-pass : sizesOk (sizesOf h) ≡ true

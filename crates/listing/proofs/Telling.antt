@@ -1,17 +1,16 @@
 -- The last region told, from the greatest start below the end.
-use mathlib.Core.Path.{_≡_, sym, ap, _∙_}
-use mathlib.Core.List.{List, [], _∷_, _++_}
-use Prim.Native.Nat.{ℕ, _+_, _-_, _≤_, _<_}
+use mathlib.Core.Path.{_≡_, sym, ap}
+use mathlib.Core.List.{List}
+use Prim.Native.Nat.{ℕ, _-_, _≤_, _<_}
 use native.Mathlib.Omega.{arith}
 use lib.ListN.{length}
-use Rattle.machine.specs.Machine.{State, region}
+use Rattle.machine.specs.Machine.{region}
 use Rattle.machine.specs.declared.Region.{Region}
 use Rattle.memory.specs.Memory.{at}
-use Rattle.listing.specs.Listing.{recordOf, recordsBelow}
 use Rattle.listing.specs.declared.Below.{Below}
 use Rattle.listing.specs.declared.Below.the-variants.{Start, Nothing}
 use Rattle.listing.specs.declared.Cursor.{Cursor}
-use Rattle.listing.specs.Steps.{Indexed, Counted, StartBelow, Tellable, Tells}
+use Rattle.listing.specs.Steps.{StartBelow, Tellable, Tells}
 use Rattle.listing.proofs.Counting.{start-inside, found-record, left-with, none-left}
 
 module _ {c : Cursor} {ws count : List ℕ} {b : Below} (some : 0 < c .left) (t : Tellable c count) (found : StartBelow (c .places) (c .lo) (c .end) ws b) where

@@ -1,11 +1,10 @@
 -- The regions of a space told from the last to the first: what the records told so far say of all of them, and the promise of a list from them.
-use mathlib.Core.Path.{_≡_, refl, sym, ap, _∙_}
+use mathlib.Core.Path.{_≡_, refl, sym, _∙_}
 use mathlib.Core.List.{List, [], _∷_, _++_, append-nil, append-assoc}
 use Prim.Native.Nat.{ℕ, _+_, _≤_}
 use native.Mathlib.Omega.{arith}
 use lib.ListN.{length}
 use Rattle.machine.specs.declared.Region.{Region}
-use Rattle.listing.specs.Listing.{recordsBelow}
 use Rattle.listing.specs.declared.Cursor.{Cursor}
 use Rattle.listing.specs.declared.Told.{Told}
 use Rattle.listing.specs.Steps.{Shows, Tellable, Tells}

@@ -1,13 +1,10 @@
 -- What is seen of the page at a place, and what look makes of it, on lists.
 use mathlib.Core.Path.{_≡_}
-use mathlib.Core.Bool.{Bool, true, false, cond, not, _&&_}
-use mathlib.Core.List.{List, _++_}
-use Prim.Native.Nat.{ℕ, zero, suc, _+_, _-_, _^_}
+use mathlib.Core.Bool.{Bool, true, false, _&&_}
+use mathlib.Core.List.{List}
+use Prim.Native.Nat.{ℕ, _+_}
 use lib.Dec.{eqb, leb, ltb}
-use lib.ListN.{length, set, drop, replicate}
-use Rattle.index.specs.declared.Change.{Change}
 use Rattle.index.specs.declared.Change.the-variants as change-is
-use Rattle.index.specs.declared.Membership.{Membership}
 use Rattle.index.specs.declared.Membership.the-variants as membership-is
 use Rattle.index.specs.declared.Found.{Found}
 use Rattle.index.specs.declared.Found.the-variants as found-is

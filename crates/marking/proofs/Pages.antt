@@ -14,13 +14,13 @@ use Rattle.memory.specs.declared.Lengths.{Lengths}
 use Rattle.promise.specs.Did.{Did}
 use Rattle.laws.specs.Models.{lentTo, checkOf}
 use Rattle.laws.specs.Refusals.{check-passes}
-use Rattle.laws.specs.Checking.{Ready, ready, checked-no, checked-yes}
+use Rattle.laws.specs.Checking.{CheckPassed, ready, checked-no, checked-yes}
 use Rattle.marking.specs.Marking.{mark-did, drop-did}
 use Rattle.marking.specs.Steps.{Searchable, MarkedAt, DroppedAt}
 
 module _ (h : Head) (i b : ℕ) (l : Lengths) (number : ℕ) (check : number ≡ checkOf h l i (ltb b (h .pages))) where
   module _ (pass : number ≡ 0) where
-    known : Ready h l i (ltb b (h .pages))
+    known : CheckPassed h l i (ltb b (h .pages))
     known = ready h l i _ (sym check ∙ pass)
 
     pub sizes-pass : sizesOk (sizesOf h) ≡ true

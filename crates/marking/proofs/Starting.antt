@@ -20,10 +20,10 @@ use Rattle.marking.specs.Models.{changeSays, startHead}
 use Rattle.laws.specs.Checking.{checked-no, checked-yes, ready}
 use Rattle.marking.specs.Marking.{start-did}
 use Rattle.machine.specs.Machine.{sizes}
-use Rattle.marking.specs.Steps.{Beginnable, Begins}
+use Rattle.marking.specs.Steps.{Beginnable, BeginsAs}
 
 pub begins : (next : Head) (t : ℕ) (ws count : List ℕ) (d : Change) (a : Answer) (ws′ count′ : List ℕ) → t ≡ places (sizesOf next)
-    → Prepared t ws d ws′ → count′ ≡ replicate t 0 ++ drop t count → a ≡ changeSays d → Begins next ws count next a ws′ count′
+    → Prepared t ws d ws′ → count′ ≡ replicate t 0 ++ drop t count → a ≡ changeSays d → BeginsAs next ws count next a ws′ count′
 begins next t ws count d a ws′ count′ et prepared cleared answer h table helper stack cache link ram =
     record {
       change = d;
@@ -72,7 +72,7 @@ module _ (head : Head) (s n f bytes : ℕ) (ws count : List ℕ) (made : MadeSiz
               (ap (λ (x : Head). memory x ws count table helper stack cache link ram) (r .0)),
         ))
 
-    pub start-begun : (h′ : Head) (a : Answer) (ws′ count′ : List ℕ) → number ≡ 0 → Begins next ws count h′ a ws′ count′ → DidStart h′ a ws′ count′
+    pub start-begun : (h′ : Head) (a : Answer) (ws′ count′ : List ℕ) → number ≡ 0 → BeginsAs next ws count h′ a ws′ count′ → DidStart h′ a ws′ count′
     start-begun h′ a ws′ count′ pass d table helper stack cache link ram =
         start-did s n f bytes _ a _
         (rw (← sized, made-is) (size .shift, refl, checked-yes _ _ number _ _ _ a checked pass (d head table helper stack cache link ram)))

@@ -25,9 +25,9 @@ use Rattle.index.specs.declared.Found.{Found}
 use Rattle.index.specs.Words.{indexOf, bitAt}
 use Rattle.index.specs.Promise.{Put, Sought}
 use Rattle.index.specs.Laws.{length-index, index-front, index-bit, index-ext}
-use Rattle.machine.specs.Machine.{Sizes, sizes, places, placeOf, isPageSize, sizesOk, firstOf, State, Pair, isStart, region, startOf, notBelow, wordsAt, Lent, Uses}
-use Rattle.machine.specs.Machine.{uses, Call, start, mark, drop, facts, asked, Answer, done, refused, tell, begun, withStart, unlessResident, markCut, markAt}
-use Rattle.machine.specs.Machine.{dropAt, accepted, step, answer, after}
+use Rattle.machine.specs.Machine.{Sizes, sizes, places, placeOf, isPageSize, sizesOk, firstOf, State, Pair, isStart, region, startOf, notBelow, wordsAt, Lent}
+use Rattle.machine.specs.Machine.{Uses, uses, Call, start, mark, drop, facts, asked, Answer, done, refused, tell, begun, withStart, unlessResident, markCut}
+use Rattle.machine.specs.Machine.{markAt, dropAt, accepted, step, answer, after}
 use Rattle.machine.specs.declared.PageCall.the-variants.{Mark, Drop}
 use Rattle.machine.specs.Answers.{size as size-is, no-size, pageSizeFor}
 use Rattle.machine.specs.Claims.{Sound}
@@ -40,8 +40,8 @@ use Rattle.promise.specs.Did.{Later, Marks, Bounds, Did}
 use Rattle.laws.specs.Models.{checkOf, Refuses, markLengths}
 use Rattle.marking.specs.Models.{cutCount, countIn, withIndex, changeSays, Puts, PutsUnless, MarkIf, DropIf, AsksStart, MarkDone, DropDone, startHead}
 use Rattle.marking.specs.Models.{Starts, StartIf, StartDone}
-use Rattle.laws.specs.Refusals.{words-none, MayKeep, begins-none, passed-step, early-did, kept-did, checked-did}
-use Rattle.laws.specs.Refusals.{Admitted, admitted, start-admitted, check-size-passes, check-passes}
+use Rattle.laws.specs.Refusals.{words-none, MayKeep, begins-none, passed-step, early-did, kept-did, checked-did, Admitted, admitted, start-admitted}
+use Rattle.laws.specs.Refusals.{check-size-passes, check-passes}
 use Rattle.laws.specs.Finds.{index-passes, sought-is, start-is}
 use Rattle.laws.specs.Checks.{page-check, same-lent}
 

@@ -1,10 +1,10 @@
 -- What mark, drop and start do, on lists.
 use mathlib.Core.Path.{_≡_}
-use mathlib.Core.Bool.{Bool, true, false, cond, not, _&&_}
+use mathlib.Core.Bool.{Bool, true, false}
 use mathlib.Core.List.{List, _++_}
-use Prim.Native.Nat.{ℕ, zero, suc, _+_, _-_, _^_}
-use lib.Dec.{eqb, leb, ltb}
-use lib.ListN.{length, set, drop, replicate}
+use Prim.Native.Nat.{ℕ, zero, suc, _+_, _^_}
+use lib.Dec.{leb}
+use lib.ListN.{drop, replicate}
 use Rattle.index.specs.declared.Change.{Change}
 use Rattle.index.specs.declared.Change.the-variants as change-is
 use Rattle.index.specs.declared.Membership.{Membership}

@@ -19,8 +19,8 @@ pub record Beginnable (h : Head) (count : List ℕ) : Type 0 where
   pub count-long : places (sizesOf h) ≤ length count
 
 -- whatever head and tables were there before
-abbrev pub Begins : Head → List ℕ → List ℕ → Head → Answer → List ℕ → List ℕ → Type 0
-Begins next ws count h′ a ws′ count′ =
+abbrev pub BeginsAs : Head → List ℕ → List ℕ → Head → Answer → List ℕ → List ℕ → Type 0
+BeginsAs next ws count h′ a ws′ count′ =
     (h : Head) (table helper stack cache link ram : List ℕ)
     → Starts next (memory h ws count table helper stack cache link ram) a (memory h′ ws′ count′ table helper stack cache link ram)
 

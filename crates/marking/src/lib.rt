@@ -1,8 +1,7 @@
-// Starting, marking and dropping regions, and counting the pool.
+// Starting, marking and dropping regions.
 use checks::all_places;
 use checks::check;
 use checks::place;
-use checks::sizes_ok;
 use index::Change;
 use index::Found;
 use index::Membership;
@@ -18,13 +17,13 @@ ghost use mathlib.Core.List.{List, _++_};
 ghost use Prim.Native.Nat.{ℕ, _≤_};
 ghost use lib.ListN.{length, drop as dropped, replicate};
 ghost use Rattle.machine.specs.Machine as machine;
-ghost use Rattle.machine.specs.Answers.{doneSays, freeSays};
+ghost use Rattle.machine.specs.Answers.{doneSays};
 ghost use Rattle.memory.specs.Memory.{memory};
 ghost use Rattle.promise.specs.Did.{Did};
 ghost use Rattle.laws.specs.Models.{lentTo};
 ghost use Rattle.marking.specs.Models.{changeSays};
 ghost use Rattle.machine.specs.Machine.{sizes};
-ghost use Rattle.marking.specs.Steps.{Beginnable, Begins, Searchable, CutPages, MarkedAt, DroppedAt};
+ghost use Rattle.marking.specs.Steps.{Beginnable, BeginsAs, Searchable, CutPages, MarkedAt, DroppedAt};
 
 // The lengths of a call that is lent the index and the resident counts.
 fn lent(index: usize, count: usize) -> Lengths
@@ -77,7 +76,7 @@ fn changed(c: Change) -> Done
 // Prepares the index and the resident counts, and nothing else.
 fn begin(next: Head, index: &mut [u64], count: &mut [u32]) -> StartOut
     requires { ⌜ Beginnable next (now count) ⌝ }
-    ensures { λ r. ⌜ Begins next (now (index .entry)) (now (count .entry)) (r .head) (doneSays (r .answer)) (now (index .exit)) (now (count .exit)) ⌝ }
+    ensures { λ r. ⌜ BeginsAs next (now (index .entry)) (now (count .entry)) (r .head) (doneSays (r .answer)) (now (index .exit)) (now (count .exit)) ⌝ }
 {
     let t = all_places(next);
     let done = index::prepare(index, t);

@@ -14,8 +14,8 @@ use Rattle.fields.specs.Laws.{begins-long}
 use Rattle.requests.specs.declared.Request.the-variants.{Page, Translate}
 use Rattle.parsing.specs.declared.Named.the-variants as name-is
 use Rattle.parsing.specs.declared.Line.{Line}
-use Rattle.parsing.specs.Grammar.{startLine, pairLine, freeLine, readLine, writeLine, listLine}
-use Rattle.parsing.specs.Grammar.{startWord, freeWord, translateWord, readWord, writeWord, listWord, pageNamed, parsed}
+use Rattle.parsing.specs.Grammar.{startLine, pairLine, freeLine, readLine, writeLine, listLine, startWord, freeWord, translateWord, readWord, writeWord}
+use Rattle.parsing.specs.Grammar.{listWord, pageNamed, parsed}
 
 front : (ws cs : List ℕ) → begins ws cs ≡ true → cs ≡ ws ++ drop (length ws) cs
 unfolding begins

@@ -8,7 +8,7 @@ use Rattle.machine.specs.declared.PageCall.{PageCall}
 use Rattle.machine.specs.declared.PageCall.the-variants.{Mark, Drop, Touch, Look, Release}
 use Rattle.fields.specs.declared.Bytes.{Bytes}
 use Rattle.fields.specs.declared.Bytes.the-variants.{Count, Wrong}
-use Rattle.fields.specs.Fields.{begins, Taken, nothing, number, fieldAt, hexCount}
+use Rattle.fields.specs.Fields.{begins, FieldTaken, nothing, number, fieldAt, hexCount}
 use Rattle.requests.specs.declared.Request.{Request}
 use Rattle.requests.specs.declared.Request.the-variants.{Start, Page, Free, Translate, Read, Write, List as Listing}
 use Rattle.parsing.specs.declared.Named.{Named}
@@ -18,7 +18,7 @@ use Rattle.parsing.specs.declared.Line.the-variants.{Call, Bad}
 
 -- ---- what is read in order
 
-abbrev pub andThen : Taken → (ℕ → List ℕ → Line) → Line
+abbrev pub andThen : FieldTaken → (ℕ → List ℕ → Line) → Line
 andThen nothing k = Bad
 andThen (number v rest) k = k v rest
 

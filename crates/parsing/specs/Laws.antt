@@ -10,7 +10,7 @@ use lib.ListN.{length, drop}
 use Rattle.machine.specs.declared.PageCall.{PageCall}
 use Rattle.fields.specs.declared.Bytes.{Bytes}
 use Rattle.fields.specs.declared.Bytes.the-variants.{Count, Wrong}
-use Rattle.fields.specs.Fields.{begins, Taken, nothing, number, fieldAt, allHex, hexCount, hexOf}
+use Rattle.fields.specs.Fields.{begins, FieldTaken, nothing, number, fieldAt, allHex, hexCount, hexOf}
 use Rattle.fields.specs.Laws.{begins-long, either, Ends, Hex, Left, Counted, after, field-left, no-hex, bytes-counted}
 use Rattle.requests.specs.declared.Request.{Request}
 use Rattle.requests.specs.declared.Request.the-variants.{Start, Page, Free, Translate, Read, Write, List as Listing}
@@ -18,9 +18,8 @@ use Rattle.parsing.specs.declared.Named.{Named}
 use Rattle.parsing.specs.declared.Named.the-variants as name-is
 use Rattle.parsing.specs.declared.Line.{Line}
 use Rattle.parsing.specs.declared.Line.the-variants.{Call, Bad}
-use Rattle.parsing.specs.Grammar.{andThen, field, ended, andCount, bytesOf, startLine, pairLine, readLine}
-use Rattle.parsing.specs.Grammar.{startWord, freeWord, translateWord, readWord, writeWord, listWord}
-use Rattle.parsing.specs.Grammar.{pageNames, orNamed, firstNamed, pageNamed, orPage, parsed}
+use Rattle.parsing.specs.Grammar.{andThen, field, ended, andCount, bytesOf, startLine, pairLine, readLine, startWord, freeWord, translateWord, readWord}
+use Rattle.parsing.specs.Grammar.{writeWord, listWord, pageNames, orNamed, firstNamed, pageNamed, orPage, parsed}
 
 -- ---- names
 
@@ -70,7 +69,7 @@ module _ (line : List ℕ) where
   Then k = (v : ℕ) (cs : List ℕ) → Ends line cs → Good (k v cs)
 
   -- a number, then more
-  then-good : (t : Taken) (k : ℕ → List ℕ → Line) → Left line t → Then k → Good (andThen t k)
+  then-good : (t : FieldTaken) (k : ℕ → List ℕ → Line) → Left line t → Then k → Good (andThen t k)
   then-good nothing k e f = tt
   then-good (number v rest) k e f = f v rest e
 

@@ -2,7 +2,6 @@
 mod calls;
 
 pub use calls::parse;
-pub use fields::unhex;
 use machine::PageCall;
 use requests::Request;
 

@@ -8,7 +8,7 @@ use Rattle.machine.specs.Machine.{Answer, refused, frames, free, sizesOk}
 use Rattle.memory.specs.Memory.{memory, sizesOf}
 use Rattle.memory.specs.declared.Head.{Head}
 use Rattle.promise.specs.Did.{Did}
-use Rattle.pool.specs.Models.{freeSays}
+use Rattle.pool.specs.Models.{countSays}
 use Rattle.pool.specs.Freeing.{free-did}
 
 module _ (h : Head) where
@@ -22,17 +22,17 @@ module _ (h : Head) where
   not-started e index count table helper stack cache link ram = free-did _ _ _ (rw e (record { answer-is = refl; same = refl }))
 
   module _ (ok : sizesOk (sizesOf h) ≡ true) where
-    says : (a : Answer) → a ≡ freeSays h → DidFree a
+    says : (a : Answer) → a ≡ countSays h → DidFree a
     says a e index count table helper stack cache link ram = free-did _ _ _ (rw ok (e, refl))
 
     pub too-many : h .frames < h .many → DidFree (refused 9)
-    unfolding freeSays
+    unfolding countSays
     too-many l = says _ (rw (lt-leb (h .many) (h .frames) l))
 
     pub too-fresh : h .many ≤ h .frames → h .frames < h .fresh → DidFree (refused 9)
-    unfolding freeSays
+    unfolding countSays
     too-fresh m l = says _ (rw (le-leb (h .many) (h .frames) m, lt-leb (h .fresh) (h .frames) l))
 
     pub counted : h .many ≤ h .frames → h .fresh ≤ h .frames → DidFree (frames (h .many + (h .frames - h .fresh)))
-    unfolding freeSays
+    unfolding countSays
     counted m l = says _ (rw (le-leb (h .many) (h .frames) m, le-leb (h .fresh) (h .frames) l))

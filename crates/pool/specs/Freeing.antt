@@ -2,7 +2,6 @@
 use mathlib.Core.Path.{_≡_, refl, sym, ap, _∙_}
 use mathlib.Core.Logic.{inl}
 use mathlib.Core.Bool.{Bool, true, false, _&&_}
-use Prim.Native.Nat.{ℕ}
 use native.Mathlib.Omega.{arith}
 use borrow.Author.Tests.{le-leb}
 use lib.Dec.{leb}
@@ -12,21 +11,21 @@ use Rattle.memory.specs.Memory.{Memory}
 use Rattle.memory.specs.declared.Head.{Head}
 use Rattle.promise.specs.Holds.{Holds}
 use Rattle.promise.specs.Did.{Later, Did}
-use Rattle.pool.specs.Models.{freeIf, freeSays, FreeDone}
+use Rattle.pool.specs.Models.{freeIf, countSays, FreeDone}
 use Rattle.laws.specs.Refusals.{kept-did, checked-did, passed-step}
 use Rattle.laws.specs.Checks.{free-check}
 use Rattle.pool.specs.Pool.{pool-length, many-fit}
 
-free-later : (h : Head) → Later free (freeSays h)
-unfolding freeSays
+free-later : (h : Head) → Later free (countSays h)
+unfolding countSays
 free-later h = go (leb (h .many) (h .frames) && leb (h .fresh) (h .frames))
   where
     go : (b : Bool) → Later free (freeIf h b)
     go true = tt
     go false = inl refl
 
-free-honest : (m : State) (k : Memory) → Holds m k → freeSays (k .head) ≡ frames (length (m .pool))
-unfolding freeSays
+free-honest : (m : State) (k : Memory) → Holds m k → countSays (k .head) ≡ frames (length (m .pool))
+unfolding countSays
 free-honest m k H =
     rw (
       le-leb (k .head .many) (k .head .frames) (omega (arith, many-fit m k H 0)),
@@ -40,7 +39,7 @@ free-did k a k′ d =
     checked-did (λ _. free) k _ (free-check k) _ a k′ d
     (λ e r.
     rw (r .0, r .1)
-    (kept-did (λ _. free) k (freeSays (k .head)) e (free-later (k .head)) (tt, tt)
+    (kept-did (λ _. free) k (countSays (k .head)) e (free-later (k .head)) (tt, tt)
     (λ m H.
     let o = passed-step m free (ap (λ z. asked z free) (sym (H .sizes-are)) ∙ e) in
     (free-honest m k H ∙ sym (ap (λ r. r .answer) o), ap (λ r. r .after) o))))

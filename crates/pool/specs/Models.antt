@@ -1,10 +1,9 @@
 -- The pool on lists: what its code does. The pool is `many` frames linked from `first` on, then the frames from `fresh` on.
 use mathlib.Core.Path.{_≡_}
-use mathlib.Core.Bool.{Bool, true, false, cond, not, _&&_}
-use mathlib.Core.List.{List, _++_}
-use Prim.Native.Nat.{ℕ, zero, suc, _+_, _-_, _^_}
+use mathlib.Core.Bool.{Bool, true, false, not, _&&_}
+use mathlib.Core.List.{List}
+use Prim.Native.Nat.{ℕ, zero, suc, _+_, _-_}
 use lib.Dec.{eqb, leb, ltb}
-use lib.ListN.{length, set, drop, replicate}
 use Rattle.machine.specs.Machine.{sizesOk, firstOf, Answer, frames, refused}
 use Rattle.memory.specs.Memory.{Memory, at, sizesOf}
 use Rattle.memory.specs.declared.Head.{Head}
@@ -57,8 +56,8 @@ abbrev pub freeIf : Head → Bool → Answer
 freeIf h true = frames (h .many + (h .frames - h .fresh))
 freeIf h false = refused 9
 
-unfoldable pub freeSays : Head → Answer
-freeSays h = freeIf h (leb (h .many) (h .frames) && leb (h .fresh) (h .frames))
+unfoldable pub countSays : Head → Answer
+countSays h = freeIf h (leb (h .many) (h .frames) && leb (h .fresh) (h .frames))
 
 abbrev pub FreeDone : Memory → Answer → Memory → Type 0
-FreeDone k a k′ = Checked refused (firstOf (sizesOk (sizesOf (k .head))) true true) (λ a k′. (a ≡ freeSays (k .head)) × (k′ ≡ k)) k a k′
+FreeDone k a k′ = Checked refused (firstOf (sizesOk (sizesOf (k .head))) true true) (λ a k′. (a ≡ countSays (k .head)) × (k′ ≡ k)) k a k′

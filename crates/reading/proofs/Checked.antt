@@ -13,10 +13,10 @@ use Rattle.memory.specs.Memory.{sizesOf}
 use Rattle.memory.specs.declared.Head.{Head}
 use Rattle.memory.specs.declared.Lengths.{Lengths}
 use Rattle.laws.specs.Models.{checkOf}
-use Rattle.laws.specs.Checking.{Ready, ready}
+use Rattle.laws.specs.Checking.{CheckPassed, ready}
 use Rattle.laws.specs.Spans.{addressInside, spanInside}
 use Rattle.laws.specs.SpanChecks.{span-page}
-use Rattle.spans.proofs.Shifted.{space-small}
+use Rattle.spans.specs.Shifted.{space-small}
 use Rattle.spans.specs.Parts.{Span}
 
 -- a page's number fits
@@ -24,7 +24,7 @@ pub page-fits : (h : Head) (b : ℕ) → sizesOk (sizesOf h) ≡ true → b < h 
 page-fits h b ok l = omega (arith, fit (sizesOf h) ok .few-pages)
 
 module _ (h : Head) (l : Lengths) (i x : ℕ) (r : ℕ) (checked : r ≡ checkOf h l i (addressInside h x)) (passed : r ≡ 0) where
-  pub address-ready : Ready h l i (addressInside h x)
+  pub address-ready : CheckPassed h l i (addressInside h x)
   address-ready = ready h l i (addressInside h x) (sym checked ∙ passed)
 
   pub address-page : x / sizesOf h .page < h .pages
@@ -34,7 +34,7 @@ module _ (h : Head) (l : Lengths) (i x : ℕ) (r : ℕ) (checked : r ≡ checkOf
       (ltb-true x (spaceBytes (sizesOf h)) (both (sizesOk (sizesOf h)) _ (address-ready .is-inside) .1))
 
 module _ (h : Head) (l : Lengths) (i x n : ℕ) (r : ℕ) (checked : r ≡ checkOf h l i (spanInside h x n)) (passed : r ≡ 0) where
-  pub span-ready : Ready h l i (spanInside h x n)
+  pub span-ready : CheckPassed h l i (spanInside h x n)
   span-ready = ready h l i (spanInside h x n) (sym checked ∙ passed)
 
   span-ends : x + n ≤ spaceBytes (sizesOf h)

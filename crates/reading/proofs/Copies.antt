@@ -17,7 +17,7 @@ use Rattle.promise.specs.Did.{Did}
 use Rattle.laws.specs.Found.{Found, address-found, Residence, residence, residence-below, RefusedAs, refused-is}
 use Rattle.laws.specs.Parts.{part-bytes, OnResident, CopiedOut, FrontCopied, front-none, front-more, front-all}
 use Rattle.spans.specs.Parts.{Part}
-use Rattle.spans.proofs.Parts.{part-page, part-long, next-long}
+use Rattle.spans.specs.PartLaws.{part-page, part-long, next-long}
 
 -- ---- one part
 

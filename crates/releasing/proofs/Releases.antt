@@ -28,7 +28,7 @@ use Rattle.releasing.specs.Cuts.{Spliceable, Splices, CutOfIf, CutOf}
 
 -- ---- a release that passed the checks
 
-module _ (h : Head) (l : Lengths) (i b : ℕ) (y : checking.Ready h l i (ltb b (h .pages))) where
+module _ (h : Head) (l : Lengths) (i b : ℕ) (y : checking.CheckPassed h l i (ltb b (h .pages))) where
   pub page-known : (sizesOk (sizesOf h) ≡ true) × (i < h .spaces) × (b < h .pages)
   page-known = (y .sizes-ok, y .space, ltb-true b (h .pages) (y .is-inside))
 

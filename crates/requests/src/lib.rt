@@ -1,4 +1,4 @@
-// A call as a request, its answer as a reply, and a reply as three numbers: what all that stands over the calls by value shares.
+// A call as a request, its answer as a reply, and a reply as three numbers: shared by all that speaks of calls in general.
 use machine::Copied;
 use machine::Done;
 use machine::Free;

@@ -1,9 +1,9 @@
 -- What each kind of call did is what the step promises.
-use mathlib.Core.Path.{_≡_, refl, sym, ap, _∙_}
-use mathlib.Core.List.{List, _++_}
-use Prim.Native.Nat.{ℕ, _*_}
+use mathlib.Core.Path.{_≡_, refl, sym}
+use mathlib.Core.List.{List}
+use Prim.Native.Nat.{ℕ}
 use native.Mathlib.Omega.{arith}
-use lib.ListN.{length, drop}
+use lib.ListN.{length}
 use Rattle.machine.specs.Machine.{Answer}
 use Rattle.machine.specs.Answers.{doneSays, touchedSays, lookedSays, releasedSays, freeSays, translatedSays, copiedSays, listedSays}
 use Rattle.machine.specs.declared.Done as ended

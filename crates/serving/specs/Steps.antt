@@ -1,17 +1,17 @@
 -- One step on memory lent whole is a step of a sequence, and follows the plain machine, started or not.
 use mathlib.Core.Path.{_≡_, refl, sym, ap, _∙_, subst}
 use mathlib.Core.Bool.{Bool, true, false}
-use mathlib.Core.List.{List, [], _++_, append-nil}
+use mathlib.Core.List.{List, _++_, append-nil}
 use mathlib.Core.Logic.{_⊎_, inl, inr}
-use Prim.Native.Nat.{ℕ, zero, suc, _≤_}
+use Prim.Native.Nat.{ℕ, zero, suc}
 use native.Mathlib.Omega.{arith}
 use lib.ListN.{length, drop}
 use lib.Seq.{take-length, drop-length}
-use Rattle.machine.specs.Machine.{Sizes, sizes, sizesOk, State, Lent, Call, start, uses, asked, accepted, Answer, done, refusal, answer, after, Out, begun}
+use Rattle.machine.specs.Machine.{Sizes, sizes, sizesOk, State, Lent, Call, start, uses, asked, accepted, Answer, refusal, answer, after, Out, begun}
 use Rattle.machine.specs.Machine.{unstarted, step}
 use Rattle.memory.specs.Memory.{Memory, memory, sizesOf, lengths}
 use Rattle.promise.specs.Holds.{Holds}
-use Rattle.promise.specs.Did.{Did, Exactly, still, Follows, Room}
+use Rattle.promise.specs.Did.{Did, Exactly, still, Room}
 use Rattle.laws.specs.Refusals.{passed-step, refused-step, refusal-still}
 use Rattle.demands.specs.History.{front, rejoined, Lends, Carries, Step}
 use Rattle.demands.specs.Laws.Step.{step-follows}

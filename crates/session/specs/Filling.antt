@@ -12,14 +12,14 @@ use Rattle.fields.specs.Fields.{Unhexed}
 use Rattle.printing.specs.Writing.{Says}
 
 -- a write's bytes; other requests leave it
-abbrev pub Fills : Request → List ℕ → ℕ → List ℕ → List ℕ → Type 0
-Fills (Start s n f p) line count buffer buffer′ = buffer′ ≡ buffer
-Fills (Page p i b) line count buffer buffer′ = buffer′ ≡ buffer
-Fills Free line count buffer buffer′ = buffer′ ≡ buffer
-Fills (Translate i x) line count buffer buffer′ = buffer′ ≡ buffer
-Fills (Read i x) line count buffer buffer′ = buffer′ ≡ buffer
-Fills (Write i x) line count buffer buffer′ = Unhexed line count buffer buffer′
-Fills (Listing i) line count buffer buffer′ = buffer′ ≡ buffer
+abbrev pub FillsBytes : Request → List ℕ → ℕ → List ℕ → List ℕ → Type 0
+FillsBytes (Start s n f p) line count buffer buffer′ = buffer′ ≡ buffer
+FillsBytes (Page p i b) line count buffer buffer′ = buffer′ ≡ buffer
+FillsBytes Free line count buffer buffer′ = buffer′ ≡ buffer
+FillsBytes (Translate i x) line count buffer buffer′ = buffer′ ≡ buffer
+FillsBytes (Read i x) line count buffer buffer′ = buffer′ ≡ buffer
+FillsBytes (Write i x) line count buffer buffer′ = Unhexed line count buffer buffer′
+FillsBytes (Listing i) line count buffer buffer′ = buffer′ ≡ buffer
 
 -- a call was made on these bytes and records, and its reply said
 pub record CallAnswered (q : Request) (k : Memory) (bytes records : List ℕ) (at : ℕ) (out : List ℕ) (end : ℕ) (k′ : Memory) (out′ : List ℕ) : Type 0 where

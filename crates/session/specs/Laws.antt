@@ -31,7 +31,7 @@ use Rattle.printing.specs.Text.{badLine, text}
 use Rattle.printing.specs.Writing.{Wrote, shown, Roomy as Sayable, Says}
 use Rattle.session.specs.Session.{beyond, lineCall, LineAnswer, answeredCall, answeredAs, answered}
 use Rattle.session.specs.Room.{Board, Answers, AnswersLine}
-use Rattle.session.specs.Filling.{Fills, CallAnswered}
+use Rattle.session.specs.Filling.{FillsBytes, CallAnswered}
 
 -- ---- a start within the limits finds room
 
@@ -97,7 +97,7 @@ filled-bytes line n buffer buffer′ long fits hex u =
 
 module _ (line : List ℕ) (n : ℕ) (buffer buffer′ records : List ℕ) (l : Lent) (fits : n ≤ length buffer) (same : length buffer′ ≡ length buffer)
     (numbers : length records ≡ 3072) where
-  pub line-call : (q : Request) → parsed line ≡ Call q n → Fills q line n buffer buffer′ → requested q (take n buffer′) records l ≡ lineCall q n line l
+  pub line-call : (q : Request) → parsed line ≡ Call q n → FillsBytes q line n buffer buffer′ → requested q (take n buffer′) records l ≡ lineCall q n line l
   line-call (Start s p f b) e fill = refl
   line-call (Page p i b) e fill = refl
   line-call Free e fill = refl
@@ -156,7 +156,7 @@ module _ (line : List ℕ) (k : Memory) (at : ℕ) (out buffer records : List �
   short-answered q n e short m S d = absurd (omega (arith, few-bytes line q n e, d .bytes))
 
   pub call-answered : (q : Request) (n : ℕ) (filled : List ℕ) → parsed line ≡ Call q n → beyond q ≡ false → n ≤ length buffer → length filled ≡ length buffer
-      → Fills q line n buffer filled → CallAnswered q k (take n filled) records at out end k′ out′ → AnswersLine line k at out buffer records end k′ out′
+      → FillsBytes q line n buffer filled → CallAnswered q k (take n filled) records at out end k′ out′ → AnswersLine line k at out buffer records end k′ out′
   call-answered q n filled e under fits same fill a m S d =
       let c = line-call line n buffer filled records (lengths k) fits same (d .numbers) q e fill in
       let s = a .serves in

@@ -6,7 +6,6 @@ mod input;
 use answering::answer_lines;
 use input::keep_rest;
 use input::read_more;
-use memory::Head;
 use memory::no_start;
 ghost use Prim.Native.Nat.{_<_};
 

@@ -7,7 +7,7 @@ use native.Mathlib.Omega.{arith}
 use lib.Dec.{leb}
 use Rattle.places.specs.Places.{size}
 use Rattle.machine.specs.Machine.{Sizes, places, sizesOk, isPageSize, between}
-use Rattle.machine.specs.Answers.{SizeAnswer, size as sized, no-size, pageSizeSays, pageSizeFor}
+use Rattle.machine.specs.Answers.{size as sized, no-size, pageSizeSays, pageSizeFor}
 use Rattle.machine.specs.Laws.Sizes.{fit, some-places}
 use Rattle.machine.specs.declared.MadeSize.{MadeSize}
 use Rattle.machine.specs.declared.MadeSize.the-variants.{Made, Refused}

@@ -1,2 +1,5 @@
 pub mod Spans
 pub mod Parts
+pub mod Absent
+pub mod PartLaws
+pub mod Shifted

@@ -1,10 +1,10 @@
 -- What a touch does, on lists.
 use mathlib.Core.Path.{_≡_}
-use mathlib.Core.Bool.{Bool, true, false, cond, not, _&&_}
-use mathlib.Core.List.{List, _++_}
-use Prim.Native.Nat.{ℕ, zero, suc, _+_, _-_, _^_}
-use lib.Dec.{eqb, leb, ltb}
-use lib.ListN.{length, set, drop, replicate}
+use mathlib.Core.Bool.{Bool, true, false, _&&_}
+use mathlib.Core.List.{List}
+use Prim.Native.Nat.{ℕ, zero, suc, _+_}
+use lib.Dec.{ltb}
+use lib.ListN.{set}
 use Rattle.machine.specs.Machine.{places, placeOf, Answer, old, new, refusedAfter, touched, refusalOf}
 use Rattle.memory.specs.Memory.{Memory, at, sizesOf}
 use Rattle.memory.specs.declared.Head.{Head}

@@ -1,5 +1,2 @@
-pub mod Surveying
-pub mod Residing
-pub mod Touching
-pub mod Storing
+pub mod Resident
 pub mod Written

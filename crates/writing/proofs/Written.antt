@@ -1,10 +1,11 @@
 -- From the check, the survey, the touches and the stores to a write's promise.
 use mathlib.Core.Path.{_≡_, refl, sym, ap, ap₂, _∙_, subst}
-use mathlib.Core.Bool.{Bool, true}
+use mathlib.Core.Bool.{Bool, true, false, cond}
 use mathlib.Core.List.{List, [], _∷_}
-use Prim.Native.Nat.{ℕ, _+_, _-_, _*_, _/_, _≤_, _<_}
+use Prim.Native.Nat.{ℕ, zero-le, _+_, _-_, _*_, _/_, _≤_, _<_}
 use native.Mathlib.Nat.{add-sub-cancel-left}
 use native.Mathlib.Omega.{arith}
+use borrow.Author.Tests.{le-ltb}
 use lib.Dec.{ltb}
 use lib.ListN.{length}
 use Rattle.machine.specs.Machine.{Sizes, sizesOk, spaceBytes, placeOf, spanPages, State, anyOutside, countAbsent, write, asked, done, refused}
@@ -15,24 +16,34 @@ use Rattle.promise.specs.Did.{Among, Words, Did}
 use Rattle.laws.specs.Models.{checkOf}
 use Rattle.laws.specs.Spans.{spanInside, writeLengths, AllTouched}
 use Rattle.laws.specs.SpanChecks.{write-check}
-use Rattle.writing.specs.Touches.{all-tables}
-use Rattle.writing.specs.Writing.{Admitted, write-admitted, span-pages-inside, writeRefusal, refusalOf, write-refused, write-done}
 use Rattle.laws.specs.Bytes.{withBytes}
 use Rattle.lookup.specs.Ready.{Lookable}
-use Rattle.lookup.proofs.Sights.{lookable, still-ready}
+use Rattle.lookup.specs.Sights.{lookable, still-ready}
 use Rattle.touching.specs.Fits.{Touchable}
 use Rattle.spans.specs.Parts.{Span}
-use Rattle.writing.specs.Surveys.{AllResident, Surveyed, Settled}
-use Rattle.writing.specs.Stores.{Stored}
-use Rattle.writing.specs.declared.Tally.{Tally}
-use Rattle.writing.proofs.Surveying.{settles}
-use Rattle.writing.proofs.Residing.{resident-surveyed, resident-touched, settled-none}
+use Rattle.surveying.specs.declared.Tally.{Tally}
+use Rattle.surveying.specs.declared.Tally.the-variants.{Absent, Refused}
+use Rattle.surveying.specs.Surveys.{AllResident, TallyIs, SpanSurveyed, settledBy, Settled}
+use Rattle.mapping.specs.Touches.{all-tables}
+use Rattle.storing.specs.Stores.{Stored}
+use Rattle.writing.specs.Writing.{SpanAdmitted, write-admitted, span-pages-inside, writeRefusal, spanRefusal, write-refused, write-done}
+use Rattle.writing.proofs.Resident.{resident-there, resident-touched}
 
 -- the number of the check
 pub number-is : (k : Memory) (i x : ℕ) (vs : List ℕ) {no : ℕ} {inside : Bool} → no ≡ checkOf (k .head) (writeLengths k) i inside
     → inside ≡ spanInside (k .head) x (length vs)
     → no ≡ asked (sizesOf (k .head)) (write i x vs (lengths k))
 number-is k i x vs e inside-is = e ∙ ap (checkOf (k .head) (writeLengths k) i) inside-is ∙ write-check k i x vs
+
+-- the survey and the free frames settle it as the machine does
+settles-if : (b : Bool) → cond b 8 0 ≡ writeRefusal false b
+settles-if true = refl
+settles-if false = refl
+
+settles : (m : State) (p n : ℕ) (s : Tally) → TallyIs m p n s
+    → settledBy (length (m .pool)) s ≡ writeRefusal (anyOutside m p n) (ltb (length (m .pool)) (countAbsent m p n))
+settles m p n (Absent c) t = rw (t .0, t .1) (settles-if (ltb (length (m .pool)) (countAbsent m p n)))
+settles m p n (Refused c) t = rw (t .0) (t .1)
 
 -- a write that passed, and its span: so many pages from `first` on
 pub record Spanned (k : Memory) (i x : ℕ) (vs : List ℕ) (first pages : ℕ) : Type 0 where
@@ -43,13 +54,13 @@ pub record Spanned (k : Memory) (i x : ℕ) (vs : List ℕ) (first pages : ℕ) 
 -- the number that settles it: one of a write, and on honest memory the machine's
 pub record Decided (k : Memory) (i x : ℕ) (vs : List ℕ) (short : ℕ) : Type 0 where
   pub late : (short ≡ 0 → ⊥) → Among (4 ∷ 8 ∷ 9 ∷ []) short
-  pub is : (m : State) → Holds m k → short ≡ refusalOf m i x (length vs)
+  pub is : (m : State) → Holds m k → short ≡ spanRefusal m i x (length vs)
 
 module _ {k : Memory} {i x : ℕ} {vs : List ℕ} {first pages : ℕ} (s : Spanned k i x vs first pages) where
   abbrev z : Sizes
   z = sizesOf (k .head)
 
-  pub admitted : Admitted (sizesOf (k .head)) i x vs (lengths k)
+  pub admitted : SpanAdmitted (sizesOf (k .head)) i x vs (lengths k)
   admitted = write-admitted (sizesOf (k .head)) i x vs (lengths k) (s .passes)
 
   pub end-inside : first + pages ≤ k .head .pages
@@ -68,17 +79,25 @@ module _ {k : Memory} {i x : ℕ} {vs : List ℕ} {first pages : ℕ} (s : Spann
   count-is : first + pages - first ≡ spanPages z x (length vs)
   count-is = add-sub-cancel-left first pages ∙ s .pages-is
 
-  pub decided : {seen : Tally} {short : ℕ} → Surveyed (k .head) i first (first + pages) (k .index) (k .count) (k .table) (k .helper) (k .stack) (k .cache) seen
+  -- what the machine says of the span's pages
+  refusal-is : (m : State) → Holds m k
+      → let p = placeOf (m .sizes) i first in
+      writeRefusal (anyOutside m p pages) (ltb (length (m .pool)) (countAbsent m p pages)) ≡ spanRefusal m i x (length vs)
+  refusal-is m H =
+      ap₂ (λ (b n : ℕ). writeRefusal (anyOutside m (placeOf (m .sizes) i b) n) (ltb (length (m .pool)) (countAbsent m (placeOf (m .sizes) i b) n)))
+      (s .first-is ∙ ap (λ (y : Sizes). x / y .page) (H .sizes-are))
+      (s .pages-is ∙ ap (λ (y : Sizes). spanPages y x (length vs)) (H .sizes-are))
+
+  pub decided : {seen : Tally} {short : ℕ} → SpanSurveyed (k .head) i first (first + pages) (k .index) (k .count) (k .table) (k .helper) (k .stack) (k .cache) seen
       → Settled (k .head) seen short → Decided k i x vs short
   decided {seen} surveyed settled =
       record {
         late = settled .late (surveyed .late);
         is = λ m H.
             settled .honest (k .index) (k .count) (k .table) (k .helper) (k .stack) (k .cache) (k .link) (k .ram) m H
-            ∙ settles m (placeOf (m .sizes) i first) (first + pages - first) seen (surveyed .honest (k .link) (k .ram) m H)
-            ∙ ap₂ (λ (b n : ℕ). writeRefusal (anyOutside m (placeOf (m .sizes) i b) n) (ltb (length (m .pool)) (countAbsent m (placeOf (m .sizes) i b) n)))
-            (s .first-is ∙ ap (λ (y : Sizes). x / y .page) (H .sizes-are))
-            (count-is ∙ ap (λ (y : Sizes). spanPages y x (length vs)) (H .sizes-are));
+            ∙ settles m (placeOf (m .sizes) i first) pages seen
+            (subst (λ (n : ℕ). TallyIs m (placeOf (m .sizes) i first) n seen) (add-sub-cancel-left first pages) (surveyed .honest (k .link) (k .ram) m H))
+            ∙ refusal-is m H;
       }
 
   pub refused-short : {short : ℕ} → Decided k i x vs short → (short ≡ 0 → ⊥) → Did (write i x vs) k (refused short) k
@@ -89,14 +108,20 @@ module _ {k : Memory} {i x : ℕ} {vs : List ℕ} {first pages : ℕ} (s : Spann
   module _ (all : AllResident (k .head) i first (first + pages) (k .count) (k .table) (k .helper) (k .stack) (k .cache)) where
     pub resident-decided : Decided k i x vs 0
     resident-decided =
-        decided
-        (resident-surveyed (k .head) i first (k .index) (k .count) (k .table) (k .helper) (k .stack) (k .cache) pages all (λ b l. span-touchable b l .ready))
-        (settled-none (k .head))
+        record {
+          late = λ d. absurd (d refl);
+          is = λ m H.
+              let back = H .sizes-are in
+              let t = resident-there k i m H (subst (λ (y : Sizes). i < y .spaces) back (admitted .space)) pages first
+              (subst (λ (y : Sizes). first + pages ≤ y .pages) back end-inside) all in
+              let none : 0 ≡ writeRefusal false (ltb (length (m .pool)) 0) = rw (le-ltb (length (m .pool)) 0 zero-le) in
+              (rw (t .0, t .1) none) ∙ refusal-is m H;
+        }
 
     pub resident-stay : AllTouched i first k (first + pages - first) k
     resident-stay =
         subst (λ (n : ℕ). AllTouched i first k n k) (sym (add-sub-cancel-left first pages))
-        (resident-touched (k .head) i first (k .index) (k .count) (k .table) (k .helper) (k .stack) (k .cache) (k .link) pages all span-touchable (k .ram))
+        (resident-touched k i first pages all span-touchable)
 
   -- ---- once every page is touched
 

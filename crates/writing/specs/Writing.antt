@@ -10,31 +10,30 @@ use lib.Dec.{leb, ltb}
 use lib.ListN.{length}
 use Rattle.places.specs.Laws.{div-mono}
 use Rattle.machine.specs.Machine.{Sizes, sizesOk, spaceBytes, State, pageOfAddress, spanPages, Lent, uses, enough, write, asked, refused, done, tell}
-use Rattle.machine.specs.Machine.{countAbsent, stored, withRam, storeAll, spanTouched, spanOutside, spanShort, writeIf, writeAt, accepted, after}
+use Rattle.machine.specs.Machine.{countAbsent, stored, storeAll, spanTouched, spanOutside, spanShort, writeIf, writeAt, accepted, after}
 use Rattle.machine.specs.Laws.Sizes.{both, Fit, fit, some-bytes, passed, page-below}
 use Rattle.machine.specs.Laws.Bytes.{in-pages}
-use Rattle.machine.specs.Laws.Kept.{sound-stored}
 use Rattle.machine.specs.Laws.Stays.{IsMapped, grown-all-touched, span-mapped}
-use Rattle.memory.specs.Memory.{Memory, memory, sizesOf, lengths}
+use Rattle.memory.specs.Memory.{Memory, sizesOf, lengths}
 use Rattle.promise.specs.Holds.{Holds}
 use Rattle.promise.specs.Did.{Among, Words, Did}
 use Rattle.laws.specs.Bytes.{withBytes, bytes-hold}
 use Rattle.laws.specs.Spans.{AllTouched}
 use Rattle.laws.specs.Refusals.{Long, long, passed-step}
 use Rattle.laws.specs.Told.{from-four, told-did}
-use Rattle.writing.specs.Touches.{all-tables, all-touched-holds}
-use Rattle.writing.specs.Storing.{SpanMapped}
+use Rattle.mapping.specs.Touches.{all-tables, all-touched-holds}
+use Rattle.storing.specs.Storing.{SpanMapped}
 
 -- ---- the check
 
 -- a write that passed
-pub record Admitted (z : Sizes) (i x : ℕ) (vs : List ℕ) (l : Lent) : Type 0 where
+pub record SpanAdmitted (z : Sizes) (i x : ℕ) (vs : List ℕ) (l : Lent) : Type 0 where
   pub sizes-ok : sizesOk z ≡ true
   pub lent : Long (uses (write i x vs l)) z l
   pub space : i < z .spaces
   pub fits : x + length vs ≤ spaceBytes z
 
-pub write-admitted : (z : Sizes) (i x : ℕ) (vs : List ℕ) (l : Lent) → asked z (write i x vs l) ≡ 0 → Admitted z i x vs l
+pub write-admitted : (z : Sizes) (i x : ℕ) (vs : List ℕ) (l : Lent) → asked z (write i x vs l) ≡ 0 → SpanAdmitted z i x vs l
 unfolding asked
 write-admitted z i x vs l e =
     let u = uses (write i x vs l) in
@@ -62,8 +61,8 @@ writeRefusal false true = 8
 writeRefusal false false = 0
 
 -- the number that settles a write on this machine
-abbrev pub refusalOf : State → ℕ → ℕ → ℕ → ℕ
-refusalOf m i x n = writeRefusal (spanOutside m i x n) (spanShort m i x n)
+abbrev pub spanRefusal : State → ℕ → ℕ → ℕ → ℕ
+spanRefusal m i x n = writeRefusal (spanOutside m i x n) (spanShort m i x n)
 
 refused-if : (m : State) (i x : ℕ) (vs : List ℕ) (a b : Bool) (n : ℕ) → n ≡ writeRefusal a b → (n ≡ 0 → ⊥) → writeIf m i x vs a b ≡ tell m (refused n)
 refused-if m i x vs true b n e d = rw e
@@ -81,7 +80,7 @@ module _ (i x : ℕ) (vs : List ℕ) (k : Memory) (passes : asked (sizesOf (k .h
   asked-of : (m : State) → Holds m k → asked (m .sizes) (write i x vs (lengths k)) ≡ 0
   asked-of m h = ap (λ z. asked z (write i x vs (lengths k))) (sym (h .sizes-are)) ∙ passes
 
-  pub write-refused : (n : ℕ) → Among (4 ∷ 8 ∷ 9 ∷ []) n → ((m : State) → Holds m k → n ≡ refusalOf m i x (length vs)) → Did (write i x vs) k (refused n) k
+  pub write-refused : (n : ℕ) → Among (4 ∷ 8 ∷ 9 ∷ []) n → ((m : State) → Holds m k → n ≡ spanRefusal m i x (length vs)) → Did (write i x vs) k (refused n) k
   unfolding accepted
   write-refused n given is =
       let low = from-four _ _ _ n (omega arith) (omega arith) (omega arith) given in
@@ -93,7 +92,7 @@ module _ (i x : ℕ) (vs : List ℕ) (k : Memory) (passes : asked (sizesOf (k .h
       (touched : AllTouched i (x / sizesOf (k .head) .page) k (spanPages (sizesOf (k .head)) x (length vs)) k₁)
       (index : k₁ .index ≡ k .index)
       (words : Words (length vs) (sizesOf (k .head) .frames * sizesOf (k .head) .page) (k .ram) ram)
-      (settled : (m : State) → Holds m k → 0 ≡ refusalOf m i x (length vs))
+      (settled : (m : State) → Holds m k → 0 ≡ spanRefusal m i x (length vs))
       (stores : (m₁ : State) → Holds m₁ k₁ → SpanMapped m₁ i x (length vs) → ram ≡ stored m₁ i x vs (k .ram)) where
     honest : (m : State) → Holds m k → Holds (storeAll (spanTouched m i x (length vs)) i x vs) (withBytes k₁ ram)
     honest m h =

@@ -1,9 +1,7 @@
 -- The parts lie inside their buffers; then the step's own promise.
-use mathlib.Core.Path.{_≡_, refl, sym, ap, _∙_}
-use Prim.Native.Nat.{ℕ}
+use mathlib.Core.Path.{refl, sym, _∙_}
 use native.Mathlib.Omega.{arith}
 use lib.ListN.{length}
-use Rattle.codes.specs.Plays.{PlayedOne}
 use Rattle.decoding.specs.Lending.{Inside, decoded-inside}
 use Rattle.codes.proofs.Playing.{call-played}
 use borrow.Author.Needs.{needs}
@@ -30,9 +28,7 @@ served c = bytes c .before
 
 -- the parts that the decoded call is lent
 lent : (c : tie.After-known-told)
-    → Inside (c .before .code .given .0 .1 .0)
-    (length (entry c .args .bytes .now))
-    (length (entry c .args .records .now))
+    → Inside (c .before .code .given .0 .1 .0) (length (entry c .args .bytes .now)) (length (entry c .args .records .now))
 lent c = decoded-inside _ _ _ _ _ _ _ _ _ (sym (c .before .before .before .decode .ensures) ∙ c .before .code .given .1)
 
 returns : tie.Need-returns

@@ -1,7 +1,7 @@
 -- A byte stored in a sequence and spared since is in the machine's RAM, where its address is.
 use mathlib.Core.Path.{_≡_, refl, sym, ap, _∙_, subst}
 use mathlib.Core.List.{List, [], _∷_, _++_}
-use Prim.Native.Nat.{ℕ, _-_}
+use Prim.Native.Nat.{ℕ}
 use native.Mathlib.Omega.{arith}
 use lib.ListN.{length}
 use Rattle.machine.specs.Machine.{Sizes, State, write, done, withRam, answer, after, afterAll}

@@ -1,14 +1,14 @@
 -- A sequence in which bytes reach the RAM from outside: the memory stands for the plain machine whose RAM the same bytes reach, all along.
 use mathlib.Core.Path.{_≡_, refl, sym, ap, ap₂, _∙_}
-use mathlib.Core.List.{List, [], _∷_, map}
+use mathlib.Core.List.{List, _∷_, map}
 use Prim.Native.Nat.{ℕ}
-use Rattle.machine.specs.Machine.{State, withRam, Answer, answers, answer, after, afterAll}
+use Rattle.machine.specs.Machine.{State, withRam, answers, answer, after, afterAll}
 use Rattle.machine.specs.Claims.{blind}
 use Rattle.memory.specs.Memory.{Memory}
 use Rattle.promise.specs.Holds.{Holds}
 use Rattle.laws.specs.Bytes.{bytes-hold}
 use Rattle.demands.specs.History.{Event, played, calls}
-use Rattle.demands.specs.Outside.{Turn, called, filled, Course, none, call, fill, made, answersIn, afterIn}
+use Rattle.demands.specs.Outside.{Turn, called, Course, none, call, fill, made, answersIn, afterIn}
 use Rattle.demands.specs.Laws.Step.{step-follows}
 use Rattle.machine.specs.Laws.Calls.{alike}
 

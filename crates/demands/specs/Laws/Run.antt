@@ -9,7 +9,7 @@ use Rattle.machine.specs.Laws.Calls.{is-refusal}
 use Rattle.memory.specs.Memory.{Memory}
 use Rattle.promise.specs.Holds.{Holds}
 use Rattle.promise.specs.Did.{Exactly}
-use Rattle.demands.specs.History.{Event, played, calls, Step, Run, none, next, Beginning}
+use Rattle.demands.specs.History.{Event, played, calls, Run, none, next, Beginning}
 use Rattle.demands.specs.Demands.{Sequence}
 use Rattle.demands.specs.Laws.Step.{told, begun-holds, step-follows}
 

@@ -7,8 +7,8 @@ use Prim.Native.Nat.{ℕ, zero, suc, _*_, _≤_}
 use native.Mathlib.Omega.{arith}
 use lib.ListN.{length, length-take, take-append-drop}
 use Rattle.machine.specs.declared.PageCall.the-variants.{Mark, Drop, Touch, Look, Release}
-use Rattle.machine.specs.Machine.{Sizes, State, Lent, uses, facts, sizesBy, sizesFor, Call, start, page, free, translate, read, write, list, asked}
-use Rattle.machine.specs.Machine.{Answer, done, refusal, Out, withRam}
+use Rattle.machine.specs.Machine.{Sizes, State, Lent, uses, facts, sizesBy, sizesFor, Call, start, page, free, translate, read, write, list, asked, Answer}
+use Rattle.machine.specs.Machine.{done, refusal, Out, withRam}
 use Rattle.machine.specs.Laws.Calls.{begins-so}
 use Rattle.memory.specs.Memory.{Memory, sizesOf, lengths}
 use Rattle.promise.specs.Holds.{Roomy, Holds}

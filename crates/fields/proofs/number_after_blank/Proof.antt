@@ -3,8 +3,7 @@ use Prim.Native.Nat.{_-_}
 use native.Mathlib.Omega.{arith}
 use borrow.Author.Needs.{needs}
 use Rattle.sequence.specs.Tests.{failed, held}
-use Rattle.fields.proofs.Digits.{none-short, none-other, none-digit, Digits, first-digit}
-use Rattle.fields.proofs.Digits.{value-fits, ends-here, stops-here, too-many, next-digit}
+use Rattle.fields.proofs.Digits.{none-short, none-other, none-digit, Digits, first-digit, value-fits, ends-here, stops-here, too-many, next-digit}
 use Rattle.fields.proofs.number_after_blank.Statement.{statement}
 use Rattle.fields.proofs.number_after_blank.Tie as tie
 

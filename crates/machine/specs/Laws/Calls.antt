@@ -1,6 +1,6 @@
 -- What each call keeps, one entry a call; from it what any call keeps, and any history.
 use mathlib.Core.Path.{_≡_, refl, sym, ap, _∙_, subst}
-use mathlib.Core.Bool.{Bool, true, false, _&&_, false≢true}
+use mathlib.Core.Bool.{true, false, _&&_, false≢true}
 use mathlib.Core.Option.{Option, none, some}
 use mathlib.Core.List.{List, [], _∷_}
 use Prim.Native.Nat.{ℕ, zero, suc, _+_}
@@ -10,18 +10,16 @@ use lib.Dec.{ltb, leb}
 use lib.ListN.{length}
 use Rattle.machine.specs.declared.PageCall.{PageCall}
 use Rattle.machine.specs.declared.PageCall.the-variants.{Mark, Drop, Touch, Look, Release}
-use Rattle.machine.specs.Machine.{Sizes, places, placeOf, sizesOk, spaceBytes, State, Lent, isStart, startOf, wordsAt, pageOf, enough}
-use Rattle.machine.specs.Machine.{Call, start, page, free, translate, read, write, list, uses, facts, pageFacts, everyBuffer, lends, lentOk, refusal}
-use Rattle.machine.specs.Machine.{asked}
-use Rattle.machine.specs.Machine.{Kind, ended, touched, looked, released, counted, translated, copied, listed, refusalOf}
-use Rattle.machine.specs.Machine.{Answer, done, Out, tell, begun, withRam, spanOutside, spanShort, acceptedAt, accepted, unless, step, answer, after}
-use Rattle.machine.specs.Machine.{afterAll}
+use Rattle.machine.specs.Machine.{Sizes, placeOf, sizesOk, spaceBytes, State, Lent, isStart, startOf, wordsAt, pageOf, enough, Call, start, page, free}
+use Rattle.machine.specs.Machine.{translate, read, write, list, uses, facts, pageFacts, everyBuffer, lends, lentOk, refusal, asked, Kind, ended}
+use Rattle.machine.specs.Machine.{touched, looked, released, counted, translated, copied, listed, refusalOf, Answer, done, Out, tell, withRam}
+use Rattle.machine.specs.Machine.{spanOutside, spanShort, accepted, unless, step, answer, after, afterAll}
 use Rattle.machine.specs.Claims.{Sound, Address, isDone, isRefused, aims, ends, Spared, Stored, MayChangeBy, MayChange}
 use Rattle.machine.specs.Laws.Sizes.{both, passed}
 use Rattle.machine.specs.Laws.Kept.{sound-begun}
 use Rattle.machine.specs.Laws.Steps.{sound-marked-or-not, sound-dropped-or-not, sound-touched, sound-released-or-not, sound-written, page-place}
-use Rattle.machine.specs.Laws.Changes.{KeptIfRefused, mark-kept, drop-kept, touch-kept, release-kept, write-kept}
-use Rattle.machine.specs.Laws.Changes.{mark-start, drop-start, touch-region, release-region, write-span, may-stay}
+use Rattle.machine.specs.Laws.Changes.{KeptIfRefused, mark-kept, drop-kept, touch-kept, release-kept, write-kept, mark-start, drop-start, touch-region}
+use Rattle.machine.specs.Laws.Changes.{release-region, write-span, may-stay}
 use Rattle.machine.specs.Laws.Bytes.{Leaves, leaves-told, leaves-marked-or-not, leaves-dropped-or-not, leaves-touched, leaves-released-or-not}
 use Rattle.machine.specs.Laws.Bytes.{leaves-written}
 use Rattle.machine.specs.Laws.Unseen.{Alike, told-alike, mark-alike, drop-alike, touch-alike, release-alike, read-alike, write-alike, list-alike}

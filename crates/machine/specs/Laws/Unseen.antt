@@ -6,14 +6,13 @@ use mathlib.Core.List.{List, [], _∷_}
 use Prim.Native.Nat.{ℕ, zero, suc, _+_}
 use lib.Dec.{leb}
 use lib.ListN.{length, replicate}
-use Rattle.sequence.specs.Lists.{tabulate, length-tabulate}
+use Rattle.sequence.specs.Lists.{length-tabulate}
 use Rattle.machine.specs.declared.Region.{Region}
 use Rattle.machine.specs.Machine.{State, Pair, Page, outside, unmapped, mapped, pageOf, wordsAt, placeOf, pageOfAddress, spanPages, ramAt, isStart}
-use Rattle.machine.specs.Machine.{region}
-use Rattle.machine.specs.Machine.{Answer, bytes, Out, tell, unlessResident, markAt, dropAt, releaseAt, touchNew, touchPage, touchAt, touchAll}
+use Rattle.machine.specs.Machine.{region, Answer, bytes, Out, tell, unlessResident, markAt, dropAt, releaseAt, touchNew, touchPage, touchAt, touchAll}
 use Rattle.machine.specs.Machine.{absence, orElse, firstAbsence, spanAbsence, byteAt, readIf, isOutside, anyOutside, isUnmapped, countAbsent, storeIn}
-use Rattle.machine.specs.Machine.{stored}
-use Rattle.machine.specs.Machine.{withRam, storeAll, spanTouched, spanOutside, spanShort, writeIf, writeAt, untilStart, records, recordsOf, listIf}
+use Rattle.machine.specs.Machine.{stored, withRam, storeAll, spanTouched, spanOutside, spanShort, writeIf, writeAt, untilStart, records, recordsOf}
+use Rattle.machine.specs.Machine.{listIf}
 use Rattle.machine.specs.Claims.{blind}
 
 -- ---- the parts of a call

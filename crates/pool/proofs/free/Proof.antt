@@ -1,4 +1,4 @@
--- Each test is one part of `freeSays`.
+-- Each test is one part of `countSays`.
 use native.Mathlib.Omega.{arith}
 use Rattle.sequence.specs.Tests.{failed, held}
 use Rattle.machine.specs.Laws.Sizes.{fit}

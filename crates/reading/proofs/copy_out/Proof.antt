@@ -4,8 +4,8 @@ use Prim.Native.Nat.{_+_, _-_, _<_, _≤_}
 use native.Mathlib.Omega.{arith}
 use lib.ListN.{length}
 use Rattle.memory.specs.Memory.{memory}
-use Rattle.spans.proofs.Shifted.{space-small}
-use Rattle.spans.proofs.Parts.{next-some, next-within, next-part}
+use Rattle.spans.specs.Shifted.{space-small}
+use Rattle.spans.specs.PartLaws.{next-some, next-within, next-part}
 use Rattle.reading.proofs.Copies.{Copying, copying-none, copying-more, copying-all}
 use borrow.Author.Needs.{needs}
 use Rattle.reading.proofs.copy_out.Statement.{statement}

@@ -9,8 +9,8 @@ use Rattle.laws.specs.Models.{checkOf}
 use Rattle.laws.specs.Spans.{spanInside, readLengths}
 use Rattle.reading.specs.Reading.{read-early, read-stopped, read-copied}
 use Rattle.lookup.specs.Ready.{Lookable}
-use Rattle.lookup.proofs.Sights.{lookable}
-use Rattle.spans.proofs.Absent.{refused-as}
+use Rattle.lookup.specs.Sights.{lookable}
+use Rattle.spans.specs.Absent.{refused-as}
 use Rattle.reading.proofs.Checked.{page-fits, span-ready, span-is, pages-low, next-page}
 use Rattle.reading.proofs.Looking.{Looking, looking-none, looking-more}
 use Rattle.spans.specs.Parts.{Span}

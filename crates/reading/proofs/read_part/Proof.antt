@@ -8,9 +8,9 @@ use Rattle.machine.specs.Machine.{look}
 use Rattle.machine.specs.Answers.{lookedSays}
 use Rattle.memory.specs.Memory.{Memory, memory, sizesOf}
 use Rattle.promise.specs.Did.{Did}
-use Rattle.spans.proofs.Absent.{refused-as}
+use Rattle.spans.specs.Absent.{refused-as}
 use Rattle.reading.proofs.Checked.{page-fits}
-use Rattle.spans.proofs.Parts.{part-page, part-small, part-ends, part-low, part-long}
+use Rattle.spans.specs.PartLaws.{part-page, part-small, part-ends, part-low, part-long}
 use Rattle.reading.proofs.Copies.{part-absent, part-beyond, part-copied}
 use borrow.Author.Needs.{needs}
 use Rattle.reading.proofs.read_part.Statement.{statement}

@@ -10,8 +10,8 @@ use Rattle.promise.specs.Did.{Did}
 use Rattle.laws.specs.Models.{checkOf, lookLengths}
 use Rattle.laws.specs.Spans.{addressInside}
 use Rattle.reading.specs.Translating.{translate-early, translate-refused, translate-at}
-use Rattle.lookup.proofs.Sights.{lookable}
-use Rattle.spans.proofs.Absent.{refused-as}
+use Rattle.lookup.specs.Sights.{lookable}
+use Rattle.spans.specs.Absent.{refused-as}
 use Rattle.reading.proofs.Checked.{page-fits, address-ready, address-page}
 use borrow.Author.Needs.{needs}
 use Rattle.reading.proofs.translate.Statement.{statement}

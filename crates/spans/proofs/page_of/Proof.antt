@@ -1,7 +1,7 @@
 -- The page is the quotient by the page's bytes.
-use mathlib.Core.Path.{_≡_, ap, _∙_}
+use mathlib.Core.Path.{ap, _∙_}
 use Prim.Native.Nat.{ℕ, _/_}
-use Rattle.spans.proofs.Shifted.{size-exact}
+use Rattle.spans.specs.Shifted.{size-exact}
 use borrow.Author.Needs.{needs}
 use Rattle.spans.proofs.page_of.Statement.{statement}
 use Rattle.spans.proofs.page_of.Tie as tie

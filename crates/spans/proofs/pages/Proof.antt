@@ -1,6 +1,6 @@
 -- The last page less the first, and one.
 use native.Mathlib.Omega.{arith}
-use Rattle.spans.proofs.Shifted.{space-small, page-low, pages-are}
+use Rattle.spans.specs.Shifted.{space-small, page-low, pages-are}
 use borrow.Author.Needs.{needs}
 use Rattle.spans.proofs.pages.Statement.{statement}
 use Rattle.spans.proofs.pages.Tie as tie

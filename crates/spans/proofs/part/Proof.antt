@@ -1,7 +1,7 @@
 -- What is left of the page, or of the span.
 use native.Mathlib.Omega.{arith}
-use Rattle.checks.proofs.Shifts.{shift-fits}
-use Rattle.spans.proofs.Shifted.{page-shifted, offset-low, part-left, part-whole}
+use Rattle.checks.specs.Shifts.{shift-fits}
+use Rattle.spans.specs.Shifted.{page-shifted, offset-low, part-left, part-whole}
 use borrow.Author.Needs.{needs}
 use Rattle.spans.proofs.part.Statement.{statement}
 use Rattle.spans.proofs.part.Tie as tie

@@ -1,9 +1,9 @@
 -- Frame times page size, and the offset.
 use native.Mathlib.Omega.{arith}
-use mathlib.Core.Path.{_≡_, ap₂, _∙_}
+use mathlib.Core.Path.{ap₂}
 use Prim.Native.Nat.{_+_}
-use Rattle.checks.proofs.Shifts.{shift-fits}
-use Rattle.spans.proofs.Shifted.{frame-shifted, frame-small, offset-low, offset-exact, page-small}
+use Rattle.checks.specs.Shifts.{shift-fits}
+use Rattle.spans.specs.Shifted.{frame-shifted, frame-small, offset-low, offset-exact, page-small}
 use borrow.Author.Needs.{needs}
 use Rattle.spans.proofs.ram_place.Statement.{statement}
 use Rattle.spans.proofs.ram_place.Tie as tie

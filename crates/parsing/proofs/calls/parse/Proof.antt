@@ -3,8 +3,7 @@ use mathlib.Core.Path.{sym, _∙_}
 use borrow.Author.Needs.{needs}
 use Rattle.parsing.specs.Grammar.{startWord, freeWord, translateWord, readWord, writeWord, listWord, parsed}
 use Rattle.parsing.specs.Laws.{named-inside}
-use Rattle.parsing.proofs.Names.{named-long, named-parsed, not-named, page-is}
-use Rattle.parsing.proofs.Names.{start-is, free-is, translate-is, read-is, write-is, list-is}
+use Rattle.parsing.proofs.Names.{named-long, named-parsed, not-named, page-is, start-is, free-is, translate-is, read-is, write-is, list-is}
 use Rattle.parsing.proofs.calls.parse.Statement.{statement}
 use Rattle.parsing.proofs.calls.parse.Tie as tie
 

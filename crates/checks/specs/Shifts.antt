@@ -1,0 +1,68 @@
+-- The page size as a power of two: which powers are page sizes, and that the RAM's bytes fit a word.
+use mathlib.Core.Path.{_≡_, refl, sym, _∙_, subst}
+use mathlib.Core.Bool.{true, false}
+use Prim.Native.Nat.{ℕ, _+_, _-_, _*_, _%_, _^_, _≤_, _<_}
+use native.Mathlib.Nat.{lt-irrefl, mul-le-mul-right, mul-le-mul-left}
+use native.Mathlib.Decide.{decLe, decLt}
+use native.Mathlib.Omega.{arith}
+use borrow.Author.Tests.{le-leb, lt-leb, eq-eqb, ne-eqb, leb-true}
+use lib.Dec.{eqb, leb}
+use lib.Pow.{pow-lt, shl-exact}
+use Rattle.places.specs.Laws.{any-holds, any-clear}
+use Rattle.machine.specs.Machine.{isPageSize, between, sizesOk}
+use Rattle.machine.specs.Laws.Sizes.{both, fit}
+use Rattle.memory.specs.Memory.{sizesOf}
+use Rattle.memory.specs.declared.Head.{Head}
+
+pub pow-injective : (a b : ℕ) → 2 ^ a ≡ 2 ^ b → a ≡ b
+pow-injective a b e = go (decLt a b) (decLt b a)
+  where
+    go : Dec (a < b) → Dec (b < a) → a ≡ b
+    go (yes l) d = absurd (lt-irrefl (2 ^ a) (subst (λ (x : ℕ). 2 ^ a < x) (sym e) (pow-lt l)))
+    go (no l) (yes g) = absurd (lt-irrefl (2 ^ b) (subst (λ (x : ℕ). 2 ^ b < x) e (pow-lt g)))
+    go (no l) (no g) = omega arith
+
+pub page-shift : (s : ℕ) → between 8 16 s ≡ isPageSize (2 ^ s)
+unfolding isPageSize
+page-shift s = go (decLe 8 s) (decLe s 16)
+  where
+    none : ((k : ℕ) → 8 ≤ k → k < 17 → s ≡ k → ⊥) → isPageSize (2 ^ s) ≡ false
+    none d = any-clear (λ k. eqb (2 ^ s) (2 ^ k)) 8 9 (λ k l h. ne-eqb (2 ^ s) (2 ^ k) (λ e. d k l (omega arith) (pow-injective s k e)))
+
+    go : Dec (8 ≤ s) → Dec (s ≤ 16) → between 8 16 s ≡ isPageSize (2 ^ s)
+    go (yes l) (yes h) =
+        rw (le-leb 8 s l, le-leb s 16 h)
+        (sym (any-holds (λ k. eqb (2 ^ s) (2 ^ k)) 8 9 (record { place = s; from = l; low = omega arith; member = eq-eqb (2 ^ s) (2 ^ s) refl })))
+    go (yes l) (no h) = rw (le-leb 8 s l, lt-leb s 16 (omega arith)) (sym (none (λ k a b e. omega arith)))
+    go (no l) d = rw (lt-leb 8 s (omega arith)) (sym (none (λ k a b e. omega arith)))
+
+pub shift-fits : (h : Head) → sizesOk (sizesOf h) ≡ true → h .page .shift ≤ 16
+shift-fits h e =
+    let f = fit (sizesOf h) e in
+    omega (arith, pow-injective (h .page .shift) (f .shift) (f .page-is), f .greatest-shift)
+
+pub ram-exact : (h : Head) (n : ℕ) → sizesOk (sizesOf h) ≡ true → n ≡ h .frames → n * 2 ^ (h .page .shift) % 2 ^ 64 ≡ h .frames * 2 ^ (h .page .shift)
+ram-exact h n e q =
+    rw q (shl-exact 17 (h .page .shift) 64 (omega (arith, fit (sizesOf h) e .few-frames)) (omega (arith, shift-fits h e)))
+
+-- a number of spaces times a number of pages fits a word
+pub small-places : (s n : ℕ) → between 1 64 s ≡ true → between 1 262144 n ≡ true → s * n ≤ 16777216
+small-places s n a b =
+    let x = leb-true s 64 (both (leb 1 s) _ a .1) in
+    let y = leb-true n 262144 (both (leb 1 n) _ b .1) in
+    omega (arith, mul-le-mul-right n x, mul-le-mul-left 64 y)
+
+pub space-exact : (h : Head) (n : ℕ) → sizesOk (sizesOf h) ≡ true → n ≡ h .pages → n * 2 ^ (h .page .shift) % 2 ^ 64 ≡ h .pages * 2 ^ (h .page .shift)
+space-exact h n e q =
+    rw q (shl-exact 19 (h .page .shift) 64 (omega (arith, fit (sizesOf h) e .few-pages)) (omega (arith, shift-fits h e)))
+
+-- a span ends in a space of `total` bytes, tested without the sum
+pub span-long : (x n all total : ℕ) → all ≡ total → all < n → false ≡ leb (x + n) total
+span-long x n all total e h = rw (← e) (sym (lt-leb (x + n) all (omega arith)))
+
+pub span-fits : (x n all total : ℕ) → all ≡ total → n ≤ all → leb x (all - n) ≡ leb (x + n) total
+span-fits x n all total e h = rw (← e) (go (decLe x (all - n)))
+  where
+    go : Dec (x ≤ all - n) → leb x (all - n) ≡ leb (x + n) all
+    go (yes l) = le-leb x (all - n) l ∙ sym (le-leb (x + n) all (omega arith))
+    go (no l) = lt-leb x (all - n) (omega arith) ∙ sym (lt-leb (x + n) all (omega arith))
