@@ -63,8 +63,8 @@ pub fn survey(
     cache: &[u32],
 ) -> Tally
     requires { ⌜ (first ≤ end) × (end ≤ head .pages) × Lookable head space (now index) (now count) (now table) (now helper) (now stack) (now cache) ⌝ }
-    ensures { λ r. ⌜ SpanSurveyed head space first end (now (index .entry)) (now (count .entry)) (now (table .entry)) (now (helper .entry)) (now (stack .entry))
-        (now (cache .entry)) r ⌝ }
+    ensures { λ r. ⌜ SpanSurveyed head space first end (now (index .entry)) (now (count .entry)) (now (table .entry)) (now (helper .entry))
+        (now (stack .entry)) (now (cache .entry)) r ⌝ }
 {
     let mut absent = 0;
     let mut page = first;

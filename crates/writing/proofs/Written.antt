@@ -88,7 +88,8 @@ module _ {k : Memory} {i x : ℕ} {vs : List ℕ} {first pages : ℕ} (s : Spann
       (s .first-is ∙ ap (λ (y : Sizes). x / y .page) (H .sizes-are))
       (s .pages-is ∙ ap (λ (y : Sizes). spanPages y x (length vs)) (H .sizes-are))
 
-  pub decided : {seen : Tally} {short : ℕ} → SpanSurveyed (k .head) i first (first + pages) (k .index) (k .count) (k .table) (k .helper) (k .stack) (k .cache) seen
+  pub decided : {seen : Tally} {short : ℕ}
+      → SpanSurveyed (k .head) i first (first + pages) (k .index) (k .count) (k .table) (k .helper) (k .stack) (k .cache) seen
       → Settled (k .head) seen short → Decided k i x vs short
   decided {seen} surveyed settled =
       record {

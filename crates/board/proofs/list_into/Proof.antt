@@ -1,5 +1,6 @@
--- `board::list_into` meets its contract: a walk of its MIR, by hand, with a loop. The borrow of the records is opened once, before the loop, and closed once, after it.
--- A turn calls `last_region` with copies of what the function was passed, and stores the record that it returns. Of a record only its size counts here, 12 bytes.
+-- `board::list_into` meets its contract: a walk of its MIR, by hand, with a loop. The borrow of the records is opened once, before the loop, and closed
+-- once, after it. A turn calls `last_region` with copies of what the function was passed, and stores the record that it returns. Of a record only its size
+-- counts here, 12 bytes.
 -- Assumes nothing.
 use mathlib.Core.Path.{_≡_, refl, sym, ap, subst}
 use Prim.Native.Nat.{ℕ, zero, _<_, _≤_, _^_, _*_}

@@ -3,20 +3,19 @@ use borrow.Author.Needs.{needs}
 use Rattle.session.proofs.answer_call.Statement.{statement}
 use Rattle.session.proofs.answer_call.Tie as tie
 
--- the step, before its reply was said
-abbrev served : tie.After-say → tie.After-serve
-served c = c .before .before .before .before .before .before .before .before .before .before .before .before .before .before .before .before .before .before .before .before .before .before .before .before .before
-
 returns : tie.Need-returns
 returns c =
     let say = c .before .before in
-    let t = served say in
+    let stack = say .before .before .before .before .before .before .before .before .before .before .before .before in
+    let records = stack .before .before .before .before .before .before .before .before .before .before in
+    let bytes = records .before .before in
+    let t = bytes .before in
     record {
       reply = t .serve .result .reply;
       bytes′ = _;
       records′ = _;
-      bytes-long = say .before .before .before .before .before .before .before .before .before .before .before .before .before .before .before .before .before .before .before .before .before .before .before .before .bytes .given;
-      records-long = say .before .before .before .before .before .before .before .before .before .before .before .before .before .before .before .before .before .before .before .before .before .before .records .given;
+      bytes-long = bytes .bytes .given;
+      records-long = records .records .given;
       serves = t .serve .ensures;
       says = say .say .ensures;
     }

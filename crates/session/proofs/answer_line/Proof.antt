@@ -29,9 +29,14 @@ slice-aggregate-answer-call : tie.Need-slice-aggregate-answer-call
 slice-aggregate-answer-call c =
     sym (length-take-le _ _ (omega (arith, c .before .before .before .before .before .before .if2 .left, c .before .before .before .buffer .given)))
 
--- a line's call made; the buffer filled before it; what the line says
+-- the buffer after a line's call, and the call; the buffer filled before it; what the line says
+abbrev lent-back : tie.After-slice-known25 → tie.After-buffer2
+lent-back c =
+    let index = c .before .before .before .before .before .before .before .before .before .before .before .before .before .before .before in
+    index .before .before .before .before
+
 abbrev called : tie.After-slice-known25 → tie.After-answer-call
-called c = c .before .before .before .before .before .before .before .before .before .before .before .before .before .before .before .before .before .before .before .before .before .before
+called c = lent-back c .before .before .before
 
 abbrev filled : tie.After-answer-call → tie.After-buffer
 filled c = c .before .before .before .before .before .before .before .before .before .before .before .before .before
@@ -43,7 +48,8 @@ same-length-6 : tie.Need-same-length-6
 same-length-6 c =
     let t = called c in
     let f = filled t in
-    length-front (f .before .fill .last .1 .1 .1 .0) (t .answer-call .last .1 .1 .1 .1 .0) (told f .said .given .0 .1 .0) (c .before .before .before .before .before .before .before .before .before .before .before .before .before .before .before .before .before .before .before .buffer2 .given .0)
+    length-front (f .before .fill .last .1 .1 .1 .0) (t .answer-call .last .1 .1 .1 .1 .0) (told f .said .given .0 .1 .0)
+    (lent-back c .buffer2 .given .0)
     ∙ f .buffer .given
 
 returns-4 : tie.Need-returns-4

@@ -26,7 +26,8 @@ part-answer-line-end c = omega (arith, c .before .before .line-at .ensures .0, c
 
 loop-less : tie.Need-loop-less Inv-loop μ-loop
 loop-less c =
-    let l = c .before .before .before .before .before .before .before .before .before .before .before .before .before .before .before .before .before .before in
+    let half = c .before .before .before .before .before .before .before .before .before in
+    let l = half .before .before .before .before .before .before .before .before .before in
     let t = l .before .loop-test .taken in
     omega (arith, t, l .line-at .ensures .2 t)
 
