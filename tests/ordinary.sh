@@ -7,7 +7,7 @@ cd "$(dirname "${BASH_SOURCE[0]}")/.."
 export LC_ALL=C
 made=target/ordinary
 mkdir -p "$made"
-rt check corwystal > "$made/log" 2>&1 || {
+tools/prove corwystal "$made/log" ordinary || {
     tail -n 5 "$made/log" >&2
     exit 1
 }
