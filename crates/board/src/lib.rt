@@ -184,7 +184,7 @@ pub fn translate(
         (memory (now (head .entry)) (now (index .entry)) (now (count .entry)) (now (table .entry)) (now (helper .entry)) (now (stack .entry))
         (now (cache .entry)) link ram)) ⌝ }
 {
-    reading::translate(
+    translating::translate(
         *head,
         space,
         address,

@@ -12,10 +12,11 @@ use Rattle.memory.specs.Memory.{Memory, lengths}
 use Rattle.promise.specs.Holds.{Holds}
 use Rattle.promise.specs.Did.{Did}
 use Rattle.laws.specs.Refusals.{refused-still}
+use Rattle.laws.specs.Located.{translate-next, translate-resident}
 use Rattle.demands.specs.History.{calls}
 use Rattle.demands.specs.Demands.{Demand1, Demand1Read, Demand1List, machineAt, Demand2, Demand3For}
 use Rattle.demands.specs.Laws.Run.{begins-holding, sequence-follows}
-use Rattle.demands.specs.Laws.Next.{translate-next, translate-resident, free-next, list-next, read-asks}
+use Rattle.demands.specs.Laws.Next.{free-next, list-next, read-asks}
 use Rattle.demands.specs.Laws.Byte.{stored-there}
 use Rattle.demands.specs.Laws.Filled.{course-follows}
 use Rattle.demands.specs.Outside.{made, afterIn, OutsideFor}

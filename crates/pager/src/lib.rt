@@ -17,7 +17,7 @@ pub use touching::touch;
 // Gives back every page of the region that starts at a page, in constant time: Pages. Refused: 1, 2, 3; 5, the page is no start; 9.
 pub use releasing::release;
 // The place in RAM of an address: At. Refused: 1, 2, 3; 4, no region; 10, the page is absent; 9.
-pub use reading::translate;
+pub use translating::translate;
 // The bytes of a span into the caller's buffer: Copied. Refused, as for the first page that isn't resident: 1, 2, 3; 4; 10; 9.
 pub use reading::read;
 // Stores bytes at a span's addresses, mapping what is absent, all or nothing: Ok. Refused: 1, 2, 3; 4, a page has no region; 8, more absent pages

@@ -1,20 +1,20 @@
--- What a check that passed says of an address and of a span.
+-- What a check that passed says of a span.
 use mathlib.Core.Path.{_≡_, refl, sym, _∙_}
 use mathlib.Core.Bool.{true}
 use mathlib.Core.List.{List}
 use Prim.Native.Nat.{ℕ, zero, suc, _+_, _/_, _≤_, _<_}
 use native.Mathlib.Nat.{div-le-self}
 use native.Mathlib.Omega.{arith}
-use borrow.Author.Tests.{ltb-true, leb-true}
+use borrow.Author.Tests.{leb-true}
 use lib.ListN.{length}
 use Rattle.machine.specs.Machine.{sizesOk, spaceBytes, spanPages}
-use Rattle.machine.specs.Laws.Sizes.{both, fit, page-below}
+use Rattle.machine.specs.Laws.Sizes.{both, fit}
 use Rattle.memory.specs.Memory.{sizesOf}
 use Rattle.memory.specs.declared.Head.{Head}
 use Rattle.memory.specs.declared.Lengths.{Lengths}
 use Rattle.laws.specs.Models.{checkOf}
 use Rattle.laws.specs.Checking.{CheckPassed, ready}
-use Rattle.laws.specs.Spans.{addressInside, spanInside}
+use Rattle.laws.specs.Spans.{spanInside}
 use Rattle.laws.specs.SpanChecks.{span-page}
 use Rattle.spans.specs.Shifted.{space-small}
 use Rattle.spans.specs.Parts.{Span}
@@ -22,16 +22,6 @@ use Rattle.spans.specs.Parts.{Span}
 -- a page's number fits
 pub page-fits : (h : Head) (b : ℕ) → sizesOk (sizesOf h) ≡ true → b < h .pages → b < 262144
 page-fits h b ok l = omega (arith, fit (sizesOf h) ok .few-pages)
-
-module _ (h : Head) (l : Lengths) (i x : ℕ) (r : ℕ) (checked : r ≡ checkOf h l i (addressInside h x)) (passed : r ≡ 0) where
-  pub address-ready : CheckPassed h l i (addressInside h x)
-  address-ready = ready h l i (addressInside h x) (sym checked ∙ passed)
-
-  pub address-page : x / sizesOf h .page < h .pages
-  unfolding addressInside
-  address-page =
-      page-below (sizesOf h) x (fit (sizesOf h) (address-ready .sizes-ok))
-      (ltb-true x (spaceBytes (sizesOf h)) (both (sizesOk (sizesOf h)) _ (address-ready .is-inside) .1))
 
 module _ (h : Head) (l : Lengths) (i x n : ℕ) (r : ℕ) (checked : r ≡ checkOf h l i (spanInside h x n)) (passed : r ≡ 0) where
   pub span-ready : CheckPassed h l i (spanInside h x n)

@@ -1,59 +1,48 @@
 -- What a copy of a part of a page gives, and parts copied one after another.
-use mathlib.Core.Path.{_≡_, sym, ap, ap₂, _∙_, subst}
+use mathlib.Core.Path.{_≡_, sym, ap, _∙_, subst}
+use mathlib.Core.Option.{none, some, Option·none-ne-some}
 use mathlib.Core.List.{List, [], _++_, append-nil, append-assoc}
-use Prim.Native.Nat.{ℕ, _+_, _-_, _*_, _/_, _%_, _≤_, _<_}
+use Prim.Native.Nat.{ℕ, _+_, _-_, _%_, _≤_}
 use native.Mathlib.Nat.{add-zero, add-sub-cancel-left}
 use native.Mathlib.Omega.{arith}
 use borrow.Rule.Slice.PartMut.{putMid, same-len-mid}
 use lib.ListN.{length, take, drop, length-append, drop-of-length-le}
 use lib.Seq.{length-take-le, take-at}
-use Rattle.machine.specs.Machine.{Sizes, pageOfAddress, State, pageOf, look, absence}
-use Rattle.machine.specs.Answers.{lookedSays}
-use Rattle.machine.specs.declared.Looked.{Looked}
-use Rattle.machine.specs.declared.Looked.the-variants.{Resident}
-use Rattle.memory.specs.Memory.{Memory, sizesOf}
+use Rattle.machine.specs.Machine.{Sizes, pageOfAddress, State, Page, outside, unmapped, mapped, pageOf, ramIn, ramAt, absence}
+use Rattle.memory.specs.Memory.{Memory}
 use Rattle.promise.specs.Holds.{Holds}
-use Rattle.promise.specs.Did.{Did}
-use Rattle.laws.specs.Found.{Found, address-found, Residence, residence, residence-below, RefusedAs, refused-is}
-use Rattle.laws.specs.Parts.{part-bytes, OnResident, CopiedOut, FrontCopied, front-none, front-more, front-all}
-use Rattle.spans.specs.Parts.{Part}
-use Rattle.spans.specs.PartLaws.{part-page, part-long, next-long}
+use Rattle.laws.specs.Parts.{part-bytes, CopiedOut, FrontCopied, front-none, front-more, front-all}
+use Rattle.spans.specs.Parts.{Part, RamPlace}
+use Rattle.spans.specs.PartLaws.{part-ends, part-long, next-long}
 
 -- ---- one part
 
-module _ (k : Memory) (i x n : ℕ) (pre : Part (k .head) i x n (k .ram)) (found : Looked)
-    (looked : Did (look i (x / sizesOf (k .head) .page)) k (lookedSays found) k) where
-  found-is : (m : State) → Holds m k → Found m (pageOfAddress (m .sizes) i x) found
-  found-is m h = address-found m k h i x (pre .span .space) (part-page (k .head) i x n (k .ram) pre) found looked
+module _ (k : Memory) (i x n : ℕ) (pre : Part (k .head) i x n (k .ram)) where
+  -- on honest memory a page that isn't resident doesn't occur
+  pub part-absent : ((m : State) → Holds m k → ramAt m i x ≡ none) → (dst : List ℕ) → CopiedOut k i x n dst
+  part-absent nowhere dst m h on =
+      absurd
+      (placed (pageOf m (pageOfAddress (m .sizes) i x))
+      (subst (λ (y : ℕ). absence (pageOf m (pageOfAddress (m .sizes) i y)) ≡ 0) (add-zero x) (on 0 (pre .some-bytes))) (nowhere m h))
+    where
+      placed : (g : Page) → absence g ≡ 0 → ramIn (m .sizes) x g ≡ none → ⊥
+      placed outside e q = omega arith
+      placed (unmapped a) e q = omega arith
+      placed (mapped a f) e q = Option·none-ne-some _ (sym q)
 
-  -- the page of its first byte
-  first-page : (m : State) → OnResident m i x n → absence (pageOf m (pageOfAddress (m .sizes) i x)) ≡ 0
-  first-page m on = subst (λ (y : ℕ). absence (pageOf m (pageOfAddress (m .sizes) i y)) ≡ 0) (add-zero x) (on 0 (pre .some-bytes))
-
-  -- on honest memory a page that isn't resident, and a frame beyond the last, don't occur
-  pub part-absent : (r : ℕ) → RefusedAs found r → (dst : List ℕ) → CopiedOut k i x n dst
-  part-absent r e dst m h on = absurd (omega (arith, refused-is m _ found r e (found-is m h) .0, refused-is m _ found r e (found-is m h) .1, first-page m on))
-
-  module _ (f : ℕ) (is : found ≡ Resident f) where
-    residence-is : (m : State) → Holds m k → Residence m (pageOfAddress (m .sizes) i x) f
-    residence-is m h = residence m _ f (subst (Found m _) is (found-is m h))
-
-    pub part-beyond : k .head .frames ≤ f → (dst : List ℕ) → CopiedOut k i x n dst
-    part-beyond beyond dst m h on = absurd (omega (arith, residence-below m k h _ f (residence-is m h), ap (λ (z : Sizes). z .frames) (h .sizes-are)))
-
-    pub part-copied : (from : ℕ) → from ≡ f * sizesOf (k .head) .page + x % sizesOf (k .head) .page → f < k .head .frames → (dst dst′ : List ℕ)
-        → length dst ≡ n
-        → let src = take (from + n - from) (drop from (k .ram)) in
-        dst′ ≡ src ++ drop (length src) dst → CopiedOut k i x n dst′
-    part-copied from at below dst dst′ l e m h on =
-        let src = take (from + n - from) (drop from (k .ram)) in
-        let long = part-long (k .head) i x n (k .ram) pre f from at below in
-        let rest : drop (length src) dst ≡ [] = drop-of-length-le dst {i = length src} (omega arith) in
-        e
-        ∙ ap (λ (l : List ℕ). src ++ l) rest
-        ∙ append-nil src
-        ∙ ap₂ (λ (c o : ℕ). take c (drop o (k .ram))) (add-sub-cancel-left from n) (at ∙ ap (λ (z : Sizes). f * z .page + x % z .page) (h .sizes-are))
-        ∙ part-bytes m k h i x n f (residence-is m h) (subst (λ (z : Sizes). x % z .page + n ≤ z .page) (h .sizes-are) (pre .fits))
+  pub part-copied : (from : ℕ) → RamPlace (k .head) x from → ((m : State) → Holds m k → ramAt m i x ≡ some from) → (dst dst′ : List ℕ) → length dst ≡ n
+      → let src = take (from + n - from) (drop from (k .ram)) in
+      dst′ ≡ src ++ drop (length src) dst → CopiedOut k i x n dst′
+  part-copied from at there dst dst′ l e m h on =
+      let src = take (from + n - from) (drop from (k .ram)) in
+      let long = part-long (k .head) i x n (k .ram) pre from at in
+      let rest : drop (length src) dst ≡ [] = drop-of-length-le dst {i = length src} (omega arith) in
+      e
+      ∙ ap (λ (l : List ℕ). src ++ l) rest
+      ∙ append-nil src
+      ∙ ap (λ (c : ℕ). take c (drop from (k .ram))) (add-sub-cancel-left from n)
+      ∙ part-bytes m k h i x n from (there m h) (subst (λ (z : Sizes). x % z .page + n ≤ z .page) (h .sizes-are) (pre .fits))
+      (part-ends (k .head) i x n (k .ram) pre from at)
 
 -- ---- parts one after another
 

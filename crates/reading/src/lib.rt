@@ -1,6 +1,5 @@
-// Reading bytes through the pager: translate and read. The checks are made once, then pages are looked up by
-// look's own promise, and a page's part of the RAM is copied at once.
-use checks::address_inside;
+// Reading bytes through the pager. The checks are made once, then pages are looked up by look's own promise, and a
+// page's part of the RAM is copied at once, from where translate has it.
 use checks::check;
 use checks::span_inside;
 use copying::copy;
@@ -14,69 +13,15 @@ use memory::Lengths;
 use spans::absence;
 use spans::page_of;
 use spans::part;
-use spans::ram_place;
+use translating::translate_checked;
 ghost use mathlib.Core.List.{List};
 ghost use Prim.Native.Nat.{ℕ};
 ghost use lib.ListN.{length};
-ghost use Rattle.machine.specs.Machine as machine;
-ghost use Rattle.machine.specs.Answers.{translatedSays};
 ghost use Rattle.memory.specs.Memory.{memory};
-ghost use Rattle.promise.specs.Did.{Did};
 ghost use Rattle.promise.specs.Filled.{ReadDid};
 ghost use Rattle.laws.specs.Parts.{CopiedOut};
 ghost use Rattle.lookup.specs.Ready.{Lookable};
 ghost use Rattle.spans.specs.Parts.{Span, Part};
-
-// The place in RAM of an address.
-pub fn translate(
-    head: Head,
-    space: u32,
-    address: usize,
-    index: &[u64],
-    count: &[u32],
-    table: &[u32],
-    helper: &[u32],
-    stack: &[u32],
-    cache: &[u32],
-) -> Translated
-    ensures { λ r. ⌜ ((link ram : List ℕ) →
-        Did (machine.translate space address)
-        (memory head (now (index .entry)) (now (count .entry)) (now (table .entry)) (now (helper .entry)) (now (stack .entry)) (now (cache .entry)) link ram)
-        (translatedSays r)
-        (memory head (now (index .entry)) (now (count .entry)) (now (table .entry)) (now (helper .entry)) (now (stack .entry)) (now (cache .entry)) link
-        ram)) ⌝ }
-{
-    let lent = Lengths {
-        index: index.len(),
-        count: count.len(),
-        table: table.len(),
-        helper: helper.len(),
-        stack: stack.len(),
-        cache: cache.len(),
-        link: ANY,
-        ram: ANY,
-    };
-    let no = check(head, lent, space, address_inside(head, address));
-    if no != 0 {
-        return Translated::Refused(no);
-    }
-    let page = page_of(head, address);
-    let found = look_checked(
-        head,
-        space,
-        page as u32,
-        index,
-        count,
-        table,
-        helper,
-        stack,
-        cache,
-    );
-    let Looked::Resident(frame) = found else {
-        return Translated::Refused(absence(found));
-    };
-    Translated::At(ram_place(head, frame, address))
-}
 
 // The bytes from address x on, all of one page, into dst, if the page is resident.
 fn read_part(
@@ -100,25 +45,19 @@ fn read_part(
         (now (ram .entry)))
         space x (length (now (dst .entry))) (now (dst .exit))) ⌝ }
 {
-    let page = page_of(head, x);
-    let found = look_checked(
+    let Translated::At(from) = translate_checked(
         head,
         space,
-        page as u32,
+        x,
         index,
         count,
         table,
         helper,
         stack,
         cache,
-    );
-    let Looked::Resident(frame) = found else {
+    ) else {
         return;
     };
-    if head.frames <= frame {
-        return;
-    }
-    let from = ram_place(head, frame, x);
     let to = from + dst.len();
     copy(&ram[from..to], dst);
 }

@@ -1,29 +1,31 @@
 -- A page's part of a span: where it lies in RAM, and the next one after it.
 use mathlib.Core.Path.{_≡_, _∙_}
 use mathlib.Core.List.{List}
-use Prim.Native.Nat.{ℕ, _+_, _-_, _*_, _/_, _%_, _≤_, _<_, min}
+use Prim.Native.Nat.{ℕ, _+_, _-_, _*_, _%_, _≤_, _<_, min}
 use native.Mathlib.Nat.{mod-lt, mul-le-mul-left, mul-le-mul-right, add-sub-cancel-left}
 use native.Mathlib.Omega.{arith}
 use lib.ListN.{length, take, drop, length-drop}
 use lib.Seq.{length-take-le}
-use Rattle.machine.specs.Laws.Sizes.{fit, page-below}
+use Rattle.machine.specs.Claims.{Address}
+use Rattle.machine.specs.Laws.Sizes.{fit}
 use Rattle.memory.specs.Memory.{sizesOf}
 use Rattle.memory.specs.declared.Head.{Head}
-use Rattle.spans.specs.Parts.{Span, Part}
+use Rattle.spans.specs.Parts.{Span, Part, RamPlace}
 use Rattle.spans.specs.Shifted.{some-page, page-small}
 
 module _ (h : Head) (i x n : ℕ) (ram : List ℕ) (pre : Part h i x n ram) where
-  pub part-page : x / sizesOf h .page < h .pages
-  part-page = page-below (sizesOf h) x (fit (sizesOf h) (pre .span .sizes-ok)) (omega (arith, pre .span .ends, pre .some-bytes))
+  -- its first byte
+  pub part-address : Address (sizesOf h) i x
+  part-address = record { space = pre .span .space; inside = omega (arith, pre .span .ends, pre .some-bytes) }
 
   -- at most a page
   pub part-small : n ≤ 65536
   part-small = omega (arith, pre .fits, page-small h (pre .span .sizes-ok))
 
   -- in the frame
-  module _ (f from : ℕ) (at : from ≡ f * sizesOf h .page + x % sizesOf h .page) (below : f < h .frames) where
+  module _ (from : ℕ) (at : RamPlace h x from) where
     pub part-in-frame : from + n ≤ h .frames * sizesOf h .page
-    part-in-frame = omega (arith, at, pre .fits, mul-le-mul-right (sizesOf h .page) below)
+    part-in-frame = omega (arith, at .is, pre .fits, mul-le-mul-right (sizesOf h .page) (at .below))
 
     pub part-ends : from + n ≤ length ram
     part-ends = omega (arith, part-in-frame, pre .span .ram-long)

@@ -20,3 +20,9 @@ pub record Part (h : Head) (i x n : ℕ) (ram : List ℕ) : Type 0 where
   pub span : Span h i x n ram
   pub some-bytes : 0 < n
   pub fits : x % sizesOf h .page + n ≤ sizesOf h .page
+
+-- place q of the RAM is that of address x in one of the frames
+pub record RamPlace (h : Head) (x q : ℕ) : Type 0 where
+  pub frame : ℕ
+  pub below : frame < h .frames
+  pub is : q ≡ frame * sizesOf h .page + x % sizesOf h .page

@@ -1,28 +1,26 @@
 -- A page's part stored in its frame, and the parts of a span one after another.
 use mathlib.Core.Path.{_≡_, sym, ap, ap₂, _∙_, subst}
+use mathlib.Core.Option.{none, some, Option·none-ne-some}
 use mathlib.Core.List.{List, _++_, append-nil, append-assoc}
-use Prim.Native.Nat.{ℕ, _+_, _-_, _*_, _/_, _%_, _≤_, _<_}
+use Prim.Native.Nat.{ℕ, _+_, _-_, _*_, _%_, _≤_}
 use native.Mathlib.Nat.{add-zero, add-assoc, add-sub-cancel-left}
 use native.Mathlib.Omega.{arith}
 use borrow.Rule.Slice.PartMut.{putMid}
 use lib.ListN.{length, take, drop, drop-of-length-le, take-append-drop}
 use lib.Seq.{drop-drop, sets, sets-eq}
 use Rattle.sequence.specs.Changes.{changed-then}
-use Rattle.machine.specs.Machine.{Sizes, pageOfAddress, State, look, absence, stored}
-use Rattle.machine.specs.Answers.{lookedSays}
-use Rattle.machine.specs.declared.Looked.{Looked}
-use Rattle.machine.specs.declared.Looked.the-variants.{Resident}
-use Rattle.machine.specs.Laws.Lookup.{mapped-is}
+use Rattle.machine.specs.Machine.{Sizes, pageOfAddress, State, ramAt, stored}
+use Rattle.machine.specs.Laws.Bytes.{ram-mapped}
 use Rattle.machine.specs.Laws.Stays.{IsMapped}
-use Rattle.memory.specs.Memory.{Memory, memory, sizesOf}
+use Rattle.memory.specs.Memory.{memory, sizesOf}
 use Rattle.memory.specs.declared.Head.{Head}
 use Rattle.promise.specs.Holds.{Holds}
-use Rattle.promise.specs.Did.{Words, Did}
+use Rattle.promise.specs.Did.{Words}
 use Rattle.laws.specs.Refusals.{words-none}
-use Rattle.laws.specs.Found.{Found, address-found, Residence, residence, residence-below, RefusedAs, refused-is}
 use Rattle.storing.specs.Storing.{SpanMapped, stored-append, stored-part, words-sets}
-use Rattle.spans.specs.Parts.{Span, Part}
-use Rattle.spans.specs.PartLaws.{part-page, part-in-frame, part-ends, part-long, next-long}
+use Rattle.spans.specs.Parts.{Span, Part, RamPlace}
+use Rattle.spans.specs.PartLaws.{part-in-frame, part-ends, part-long, next-long}
+use Rattle.translating.specs.Located.{IsAt}
 use Rattle.storing.specs.Stores.{Stored}
 
 -- ---- one part
@@ -39,58 +37,29 @@ part-back from vs ram last l long e =
     ∙ sym (append-assoc (take from ram) vs (drop (from + n) ram))
     ∙ sym (sets-eq vs ram from l)
 
-module _ (h : Head) (i x : ℕ) (vs index count table helper stack cache ram : List ℕ) (pre : Part h i x (length vs) ram)
-    (found : Looked) (b : ℕ) (page : b ≡ x / sizesOf h .page)
-    (looks : (link ram₀ : List ℕ) → let k = memory h index count table helper stack cache link ram₀ in Did (look i b) k (lookedSays found) k) where
-  abbrev lent : List ℕ → List ℕ → Memory
-  lent link ram₀ = memory h index count table helper stack cache link ram₀
-
-  found-is : (link ram₀ : List ℕ) (m : State) → Holds m (lent link ram₀) → Found m (pageOfAddress (m .sizes) i x) found
-  found-is link ram₀ m H =
-      address-found m (lent link ram₀) H i x (pre .span .space) (part-page h i x (length vs) ram pre) found (rw (← page) (looks link ram₀))
-
-  first-mapped : (m : State) → SpanMapped m i x (length vs) → IsMapped m (pageOfAddress (m .sizes) i x)
-  first-mapped m on = subst (λ (y : ℕ). IsMapped m (pageOfAddress (m .sizes) i y)) (add-zero x) (on 0 (pre .some-bytes))
-
-  -- on honest memory a page that isn't resident, and a frame beyond the last, don't occur
-  pub part-refused : (n : ℕ) → RefusedAs found n → Stored h i x vs index count table helper stack cache ram ram
-  part-refused n r =
+module _ (h : Head) (i x : ℕ) (vs index count table helper stack cache ram : List ℕ) (pre : Part h i x (length vs) ram) where
+  -- on honest memory a page that isn't mapped doesn't occur
+  pub part-refused : IsAt h i x index count table helper stack cache none → Stored h i x vs index count table helper stack cache ram ram
+  part-refused absent =
       record {
         words = words-none (length vs) _ ram;
         honest = λ link ram₀ m H on.
-            let t = first-mapped m on in
-            let q = refused-is m (pageOfAddress (m .sizes) i x) found n r (found-is link ram₀ m H) in
-            absurd (omega (arith, q .0, q .1, ap absence (mapped-is m (pageOfAddress (m .sizes) i x) (t .start) (t .frame) (t .is))));
+            let first = ap (ramAt m i) (sym (add-zero x)) ∙ ram-mapped m i (x + 0) _ _ (on 0 (pre .some-bytes) .is) in
+            absurd (Option·none-ne-some _ (sym (absent link ram₀ m H) ∙ first));
       }
 
-  module _ (f : ℕ) (is : found ≡ Resident f) where
-    residence-is : (link ram₀ : List ℕ) (m : State) → Holds m (lent link ram₀) → Residence m (pageOfAddress (m .sizes) i x) f
-    residence-is link ram₀ m H = residence m _ f (subst (Found m _) is (found-is link ram₀ m H))
-
-    pub part-beyond : h .frames ≤ f → Stored h i x vs index count table helper stack cache ram ram
-    part-beyond beyond =
-        record {
-          words = words-none (length vs) _ ram;
-          honest = λ link ram₀ m H on.
-              absurd (omega (arith, residence-below m (lent link ram₀) H _ f (residence-is link ram₀ m H), ap (λ (z : Sizes). z .frames) (H .sizes-are)));
-        }
-
-    pub part-stored : (from : ℕ) (last : List ℕ) → from ≡ f * sizesOf h .page + x % sizesOf h .page → f < h .frames
-        → last ≡ vs ++ drop (length vs) (take (from + length vs - from) (drop from ram))
-        → Stored h i x vs index count table helper stack cache ram (putMid from (from + length vs - from) ram last)
-    part-stored from last at below e =
-        let n = length vs in
-        let ends = part-ends h i x n ram pre f from at below in
-        let back = part-back from vs ram last ends (part-long h i x n ram pre f from at below) e in
-        record {
-          words = rw back (words-sets _ ram from vs (part-in-frame h i x n ram pre f from at below));
-          honest = λ link ram₀ m H on.
-              let r = residence-is link ram₀ m H in
-              let fits = subst (λ (z : Sizes). x % z .page + n ≤ z .page) (H .sizes-are) (pre .fits) in
-              back
-              ∙ ap (λ (q : ℕ). sets ram q vs) (at ∙ ap (λ (z : Sizes). f * z .page + x % z .page) (H .sizes-are))
-              ∙ sym (stored-part m i x (r .start) f vs ram (r .is) fits);
-        }
+  pub part-stored : (from : ℕ) (last : List ℕ) → RamPlace h x from → IsAt h i x index count table helper stack cache (some from)
+      → last ≡ vs ++ drop (length vs) (take (from + length vs - from) (drop from ram))
+      → Stored h i x vs index count table helper stack cache ram (putMid from (from + length vs - from) ram last)
+  part-stored from last at there e =
+      let n = length vs in
+      let back = part-back from vs ram last (part-ends h i x n ram pre from at) (part-long h i x n ram pre from at) e in
+      record {
+        words = rw back (words-sets _ ram from vs (part-in-frame h i x n ram pre from at));
+        honest = λ link ram₀ m H on.
+            back
+            ∙ sym (stored-part m i x from vs ram (there link ram₀ m H) (subst (λ (z : Sizes). x % z .page + n ≤ z .page) (H .sizes-are) (pre .fits)));
+      }
 
 -- ---- parts one after another
 

@@ -2,14 +2,14 @@
 use mathlib.Core.Path.{_≡_, refl, sym, ap, _∙_}
 use mathlib.Core.List.{List, [], _∷_, _++_}
 use mathlib.Core.Option.{some}
-use Prim.Native.Nat.{ℕ, suc, _+_, _*_, _%_, _≤_, _<_}
+use Prim.Native.Nat.{ℕ, suc, _+_, _%_, _≤_, _<_}
 use native.Mathlib.Nat.{add-zero, add-suc, suc-add}
 use native.Mathlib.Omega.{arith}
 use lib.ListN.{length, set, drop}
 use lib.Seq.{sets, drop-set-lt}
 use Rattle.sequence.specs.Lists.{Changed}
 use Rattle.sequence.specs.Changes.{changed-none, changed-more, changed-set, changed-then}
-use Rattle.machine.specs.Machine.{State, pageOfAddress, mapped, pageOf, ramAt, storeIn, stored}
+use Rattle.machine.specs.Machine.{State, pageOfAddress, ramAt, storeIn, stored}
 use Rattle.machine.specs.Laws.Stays.{IsMapped}
 use Rattle.promise.specs.Did.{Words}
 use Rattle.laws.specs.Parts.{ram-after}
@@ -39,10 +39,9 @@ module _ (m : State) (i : ℕ) where
       ∙ stored-run (suc x) (suc q) vs (set ram q v)
       (λ k l. ap (ramAt m i) (suc-add x k ∙ sym (add-suc x k)) ∙ at (suc k) (omega arith) ∙ ap some (add-suc q k ∙ sym (suc-add q k)))
 
-  -- within the page of x, which holds frame f
-  pub stored-part : (x a f : ℕ) (vs ram : List ℕ) → pageOf m (pageOfAddress (m .sizes) i x) ≡ mapped a f → x % m .sizes .page + length vs ≤ m .sizes .page
-      → stored m i x vs ram ≡ sets ram (f * m .sizes .page + x % m .sizes .page) vs
-  stored-part x a f vs ram e h = stored-run x _ vs ram (λ k l. ram-after m i x k a f e (omega arith))
+  -- within the page of x, which is at q
+  pub stored-part : (x q : ℕ) (vs ram : List ℕ) → ramAt m i x ≡ some q → x % m .sizes .page + length vs ≤ m .sizes .page → stored m i x vs ram ≡ sets ram q vs
+  stored-part x q vs ram at h = stored-run x q vs ram (λ k l. ram-after m i x q k at (omega arith))
 
 -- ---- on any memory: as many bytes as were stored, where they were stored
 

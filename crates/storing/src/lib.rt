@@ -1,11 +1,9 @@
 // Storing the bytes of a span whose pages are mapped: each frame's part of the RAM is lent on, and stored there.
 use copying::copy;
-use lookup::look_checked;
-use machine::Looked;
+use machine::Translated;
 use memory::Head;
-use spans::page_of;
 use spans::part;
-use spans::ram_place;
+use translating::translate_checked;
 ghost use lib.ListN.{length};
 ghost use Rattle.lookup.specs.Ready.{Lookable};
 ghost use Rattle.spans.specs.Parts.{Span, Part};
@@ -30,25 +28,19 @@ fn write_part(
     ensures { λ _. ⌜ Stored head space x (now (src .entry)) (now (index .entry)) (now (count .entry)) (now (table .entry)) (now (helper .entry))
         (now (stack .entry)) (now (cache .entry)) (now (ram .entry)) (now (ram .exit)) ⌝ }
 {
-    let page = page_of(head, x);
-    let found = look_checked(
+    let Translated::At(from) = translate_checked(
         head,
         space,
-        page as u32,
+        x,
         index,
         count,
         table,
         helper,
         stack,
         cache,
-    );
-    let Looked::Resident(frame) = found else {
+    ) else {
         return;
     };
-    if head.frames <= frame {
-        return;
-    }
-    let from = ram_place(head, frame, x);
     let to = from + src.len();
     copy(src, &mut ram[from..to]);
 }

@@ -7,10 +7,10 @@ use denote.Enum.Laws as EL
 use Rattle.memory.proofs.Head as T
 use Rattle.machine.proofs.Translated as R
 use Rattle.machine.proofs.Translated.Laws as R′
-use Rattle.reading.proofs.translate as g
-use Rattle.reading.proofs.translate.Symbol as g-def
-use Rattle.reading.proofs.translate.Symbol.{name as #g}
-use Rattle.reading.proofs.translate.Met as g-thm
+use Rattle.translating.proofs.translate as g
+use Rattle.translating.proofs.translate.Symbol as g-def
+use Rattle.translating.proofs.translate.Symbol.{name as #g}
+use Rattle.translating.proofs.translate.Met as g-thm
 use Rattle.board.proofs.Walks.{Kind, word, shared, typesOf, spellsOf, tellsOf, typedOf, meets, headVal, enters, reads-head, arg, gives}
 use Rattle.board.proofs.translate.Key.{name as #f}
 use Rattle.board.proofs.translate as f
@@ -48,4 +48,4 @@ translate-spec 𝓤 H 𝓜 𝓖 𝓡 =
     entered 𝓤 H (tripleOf 𝓤 H (𝓖 .A) f.signature (f.spec 𝓤 H (𝓖 .A) (𝓜 .mem) (𝓡 .run)))
     (tables 𝓤 H 𝓜 𝓡 code.env .C) (tables 𝓤 H 𝓜 𝓡 code.env .Λ) #f code.function (code.unfolded 𝓤 H 𝓜 𝓡)
     (f-meets 𝓤 H (𝓖 .A) (givenOf 𝓤 H 𝓜 𝓖) (𝓜 .mem) (𝓡 .run) (tablesOf 𝓤 H 𝓜 (tables 𝓤 H 𝓜 𝓡 code.env))
-    (cited 𝓤 H (Callee 𝓤 H (𝓖 .A) (𝓜 .mem) (𝓡 .run)) 𝓜 𝓡 code.env #g g-def.routine code.calls-reading·translate (g-thm.met 𝓤 H 𝓜 𝓖 𝓡)))
+    (cited 𝓤 H (Callee 𝓤 H (𝓖 .A) (𝓜 .mem) (𝓡 .run)) 𝓜 𝓡 code.env #g g-def.routine code.calls-translating·translate (g-thm.met 𝓤 H 𝓜 𝓖 𝓡)))

@@ -1,63 +1,58 @@
--- The page's look, and a copy into its frame's part of the RAM.
-use mathlib.Core.Path.{refl}
+-- Where the part's first byte is, and a copy into that part of the RAM.
+use mathlib.Core.Option.{some}
 use native.Mathlib.Omega.{arith}
 use borrow.Author.Needs.{needs}
-use Rattle.machine.specs.Laws.Sizes.{fit}
-use Rattle.spans.specs.Absent.{refused-as}
-use Rattle.spans.specs.PartLaws.{part-page, part-small, part-low, part-ends, part-long}
-use Rattle.storing.proofs.Storing.{part-refused, part-beyond, part-stored}
+use Rattle.spans.specs.Parts.{RamPlace}
+use Rattle.spans.specs.PartLaws.{part-address, part-small, part-low, part-ends, part-long}
+use Rattle.translating.specs.Located.{IsAt, located, nowhere}
+use Rattle.storing.proofs.Storing.{part-refused, part-stored}
 use Rattle.storing.proofs.write_part.Statement.{statement}
 use Rattle.storing.proofs.write_part.Tie as tie
 
-abbrev entry : tie.After-page-of → tie.Start
+abbrev entry : tie.After-translate-checked → tie.Start
 entry c = c .before .before .before .before .before .before .before .before .before
 
--- the look before the frame's place was computed
-abbrev look-of : tie.After-ram-place → tie.After-look-checked
-look-of c = c .before .before .before .before .before .before
+-- the answer that the place was taken from
+abbrev told : tie.After-known-told → tie.After-translate-checked
+told c = c .before .before .before
 
-cast-look-checked : tie.Need-cast-look-checked
-cast-look-checked c =
-    let pre = entry c .pre .0 in
-    omega (arith, c .page-of .ensures, part-page _ _ _ _ _ pre, fit _ (pre .span .sizes-ok) .few-pages)
-
-look-checked-requires : tie.Need-look-checked-requires
-look-checked-requires c κs = let s = entry c in s .pre .1 _ (omega (arith, c .page-of .ensures, part-page _ _ _ _ _ (s .pre .0)))
+placed : (c : tie.After-known-told)
+    → let a = entry (told c) .args in
+    let q = c .before .from .given .0 .0 in
+    RamPlace (a .head) (a .x) q × IsAt (a .head) (a .space) (a .x) (a .index .now) (a .count .now) (a .table .now) (a .helper .now) (a .stack .now)
+    (a .cache .now) (some q)
+placed c =
+    let t = told c in
+    located _ _ _ _ _ _ _ _ _ (part-address _ _ _ _ _ (entry t .pre .0)) (t .translate-checked .result) (t .translate-checked .ensures) _
+    (c .before .from .given .1)
 
 returns : tie.Need-returns
 returns c =
-    let l = c .before in
-    part-refused _ _ _ _ _ _ _ _ _ _ _ (entry (l .before) .pre .0) (l .look-checked .result) _ (l .before .page-of .ensures) (l .look-checked .ensures) _
-    (refused-as (l .look-checked .result) _ refl (c .match .keys2))
-
-returns-2 : tie.Need-returns-2
-returns-2 c =
-    let l = c .before .before .before .before .before in
-    part-beyond _ _ _ _ _ _ _ _ _ _ _ (entry (l .before) .pre .0) (l .look-checked .result) _ (l .before .page-of .ensures) (l .look-checked .ensures) _
-    (c .before .before .before .found .given .1) (c .if1 .taken)
+    let t = c .before .before in
+    let pre = entry t .pre .0 in
+    part-refused _ _ _ _ _ _ _ _ _ _ _ pre
+    (nowhere _ _ _ _ _ _ _ _ _ (part-address _ _ _ _ _ pre) (t .translate-checked .result) (t .translate-checked .ensures) _ (c .enum-told .given .1))
 
 add-to : tie.Need-add-to
-add-to c = omega (arith, part-low _ _ _ _ _ (entry (look-of c .before) .pre .0) _ _ (c .ram-place .ensures) (c .before .if1 .left))
+add-to c = omega (arith, part-low _ _ _ _ _ (entry (told c) .pre .0) _ (placed c .0))
 
 part-copy-end : tie.Need-part-copy-end
-part-copy-end c = omega (arith, part-ends _ _ _ _ _ (entry (look-of c .before) .pre .0) _ _ (c .ram-place .ensures) (c .before .if1 .left))
+part-copy-end c = omega (arith, part-ends _ _ _ _ _ (entry (told c) .pre .0) _ (placed c .0))
 
 copy-requires : tie.Need-copy-requires
 copy-requires c κs =
     let p = c .before in
-    let pre = entry (look-of p .before) .pre .0 in
-    (omega (arith, part-small _ _ _ _ _ pre), omega (arith, part-long _ _ _ _ _ pre _ _ (p .ram-place .ensures) (p .before .if1 .left)))
+    let pre = entry (told p) .pre .0 in
+    (omega (arith, part-small _ _ _ _ _ pre), omega (arith, part-long _ _ _ _ _ pre _ (placed p .0)))
 
-returns-3 : tie.Need-returns-3
-returns-3 c =
+returns-2 : tie.Need-returns-2
+returns-2 c =
     let p = c .before .before .before .before in
-    let l = look-of p in
-    part-stored _ _ _ _ _ _ _ _ _ _ _ (entry (l .before) .pre .0) (l .look-checked .result) _ (l .before .page-of .ensures) (l .look-checked .ensures) _
-    (p .before .before .before .before .found .given .1) _ _ (p .ram-place .ensures) (p .before .if1 .left) (c .before .before .copy .ensures)
+    part-stored _ _ _ _ _ _ _ _ _ _ _ (entry (told p) .pre .0) _ _ (placed p .0) (placed p .1) (c .before .before .copy .ensures)
 
 pub write-part-spec : {M : Type 1} → statement M
 write-part-spec =
     tie.close
     (tie.spec
-    (λ c κs. search needs) cast-look-checked look-checked-requires (λ c. search needs) returns returns-2 (λ c κs. search needs) add-to
-    (λ c. search needs) (λ c. search needs) part-copy-end copy-requires (λ c. search needs) returns-3)
+    (λ c κs. search needs) (λ c. search needs) (λ c. search needs) returns add-to (λ c. search needs) (λ c. search needs) part-copy-end copy-requires
+    (λ c. search needs) returns-2)
