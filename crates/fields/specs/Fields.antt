@@ -78,7 +78,6 @@ bytesIn (a ∷ b ∷ cs) = (16 * nibble a + nibble b) ∷ bytesIn cs
 abbrev pub hexOf : List ℕ → ℕ → List ℕ
 hexOf line n = drop (length line - 2 * n) line
 
--- where they are hex and there is room, their bytes stand at the front of the buffer, and the rest stays
-abbrev pub Unhexed : List ℕ → ℕ → List ℕ → List ℕ → Type 0
-Unhexed line n buffer buffer′ =
-    2 * n ≤ length line → n ≤ length buffer → allHex (hexOf line n) ≡ true → buffer′ ≡ bytesIn (hexOf line n) ++ drop n buffer
+-- their bytes at the front of the buffer, the rest as it was; nothing is written where a digit isn't hex or there is no room
+unfoldable pub unhexed : List ℕ → ℕ → List ℕ → List ℕ
+unhexed line n buffer = cond (leb (2 * n) (length line) && leb n (length buffer) && allHex (hexOf line n)) (bytesIn (hexOf line n) ++ drop n buffer) buffer

@@ -1,11 +1,11 @@
--- What a field says of the line: what was read there, and that what it leaves is the line's end.
+-- What a field says of the line: what was read there, that what it leaves is the line's end, and which bytes its hex is.
 use mathlib.Core.Path.{_≡_, refl}
 use mathlib.Core.Bool.{Bool, true, false, cond, _&&_}
-use mathlib.Core.List.{List, [], _∷_}
+use mathlib.Core.List.{List, [], _∷_, _++_}
 use Prim.Native.Nat.{ℕ, zero, suc, _+_, _-_, _*_, _/_, _%_, _≤_, _<_}
 use native.Mathlib.Numerals.{add-one}
 use native.Mathlib.Omega.{arith}
-use borrow.Author.Tests.{leb-true, eqb-true}
+use borrow.Author.Tests.{leb-true, eqb-true, le-leb}
 use lib.Dec.{eqb, leb}
 use lib.ListN.{length, drop, getD, drop-of-length-le}
 use lib.Seq.{drop-cons, drop-drop, drop-length}
@@ -14,7 +14,8 @@ use Rattle.fields.specs.declared.Field.{Field}
 use Rattle.fields.specs.declared.Field.the-variants as field-is
 use Rattle.fields.specs.declared.Bytes.{Bytes}
 use Rattle.fields.specs.declared.Bytes.the-variants.{Count, Wrong}
-use Rattle.fields.specs.Fields.{begins, isDigit, FieldTaken, nothing, number, digitsAfter, numberAt, fieldAt, Takes, allHex, isBytes, hexCount, hexOf}
+use Rattle.fields.specs.Fields.{begins, isDigit, FieldTaken, nothing, number, digitsAfter, numberAt, fieldAt, Takes, allHex, isBytes, hexCount}
+use Rattle.fields.specs.Fields.{bytesIn, hexOf, unhexed}
 
 -- ---- a place in a line
 
@@ -123,3 +124,11 @@ module _ (line : List ℕ) where
           let r = tail c cs e in
           let all : 2 * (length cs / 2) ≡ length cs = omega arith in
           (omega arith, (omega (arith, r .short), rw (all, r .end) (p₃ .1)))
+
+-- ---- the bytes of a line's hex
+
+-- where they are hex and there is room, they stand at the front
+pub unhexed-all : (line : List ℕ) (n : ℕ) (buffer : List ℕ) → 2 * n ≤ length line → n ≤ length buffer → allHex (hexOf line n) ≡ true
+    → unhexed line n buffer ≡ bytesIn (hexOf line n) ++ drop n buffer
+unfolding unhexed
+unhexed-all line n buffer digits room hex = rw (le-leb (2 * n) (length line) digits, le-leb n (length buffer) room, hex)

@@ -3,7 +3,7 @@ ghost use mathlib.Core.Bool.{Bool};
 ghost use mathlib.Core.Path.{_≡_};
 ghost use Prim.Native.Nat.{_+_, _-_, _*_, _≤_};
 ghost use lib.ListN.{length, drop};
-ghost use Rattle.fields.specs.Fields.{begins, isDigit, Takes, isHex, allHex, hexCount, nibble, Unhexed};
+ghost use Rattle.fields.specs.Fields.{begins, isDigit, Takes, isHex, allHex, hexCount, nibble, unhexed};
 
 // A number of a line, and where it ends.
 pub enum Field {
@@ -147,9 +147,9 @@ fn byte_of(a: u8, b: u8) -> u8
     16 * value_of(a) + value_of(b)
 }
 
-// The bytes that the last 2 n digits of a line are, at the front of the buffer; as many as there are digits and room for.
+// The bytes that the last 2 n digits of a line are, at the front of the buffer. All or nothing, so every digit is tested before the first byte is written.
 pub fn unhex(line: &[u8], n: usize, buffer: &mut [u8])
-    ensures { λ _. ⌜ Unhexed (now (line .entry)) n (now (buffer .entry)) (now (buffer .exit)) ⌝ }
+    ensures { λ _. ⌜ now (buffer .exit) ≡ unhexed (now (line .entry)) n (now (buffer .entry)) ⌝ }
 {
     if buffer.len() < n {
         return;
@@ -158,17 +158,12 @@ pub fn unhex(line: &[u8], n: usize, buffer: &mut [u8])
         return;
     }
     let mut at = line.len() - 2 * n;
+    if !all_hex(line, at) {
+        return;
+    }
     let mut i = 0;
     while i < n {
-        let a = line[at];
-        let b = line[at + 1];
-        if !is_hex(a) {
-            return;
-        }
-        if !is_hex(b) {
-            return;
-        }
-        buffer[i] = byte_of(a, b);
+        buffer[i] = byte_of(line[at], line[at + 1]);
         at += 2;
         i += 1;
     }

@@ -8,7 +8,7 @@ use Rattle.serving.specs.Serves.{Serves}
 use Rattle.requests.specs.declared.Reply.{Reply}
 use Rattle.requests.specs.declared.Request.{Request}
 use Rattle.requests.specs.declared.Request.the-variants.{Start, Page, Free, Translate, Read, Write, List as Listing}
-use Rattle.fields.specs.Fields.{Unhexed}
+use Rattle.fields.specs.Fields.{unhexed}
 use Rattle.printing.specs.Writing.{Says}
 
 -- a write's bytes; other requests leave it
@@ -18,7 +18,7 @@ FillsBytes (Page p i b) line count buffer buffer′ = buffer′ ≡ buffer
 FillsBytes Free line count buffer buffer′ = buffer′ ≡ buffer
 FillsBytes (Translate i x) line count buffer buffer′ = buffer′ ≡ buffer
 FillsBytes (Read i x) line count buffer buffer′ = buffer′ ≡ buffer
-FillsBytes (Write i x) line count buffer buffer′ = Unhexed line count buffer buffer′
+FillsBytes (Write i x) line count buffer buffer′ = buffer′ ≡ unhexed line count buffer
 FillsBytes (Listing i) line count buffer buffer′ = buffer′ ≡ buffer
 
 -- a call was made on these bytes and records, and its reply said

@@ -22,7 +22,8 @@ use Rattle.requests.specs.declared.Request.{Request}
 use Rattle.requests.specs.declared.Request.the-variants.{Start, Page, Free, Translate, Read, Write, List as Listing}
 use Rattle.requests.specs.declared.Reply.{Reply}
 use Rattle.requests.specs.declared.Reply.the-variants as reply-is
-use Rattle.fields.specs.Fields.{bytesIn, allHex, hexOf, Unhexed}
+use Rattle.fields.specs.Fields.{bytesIn, allHex, hexOf, unhexed}
+use Rattle.fields.specs.Laws.{unhexed-all}
 use Rattle.parsing.specs.Grammar.{parsed}
 use Rattle.parsing.specs.Laws.{few-bytes, write-hex}
 use Rattle.parsing.specs.declared.Line.{Line}
@@ -89,10 +90,10 @@ bytes-length (suc n) (a ∷ []) e = absurd (omega arith)
 bytes-length (suc n) (a ∷ b ∷ cs) e = ap suc (bytes-length n cs (omega arith))
 
 filled-bytes : (line : List ℕ) (n : ℕ) (buffer buffer′ : List ℕ) → 2 * n ≤ length line → n ≤ length buffer → allHex (hexOf line n) ≡ true
-    → Unhexed line n buffer buffer′
+    → buffer′ ≡ unhexed line n buffer
     → take n buffer′ ≡ bytesIn (hexOf line n)
 filled-bytes line n buffer buffer′ long fits hex u =
-    rw (u long fits hex)
+    rw (u, unhexed-all line n buffer long fits hex)
     (take-at (bytesIn (hexOf line n)) (drop n buffer) n (bytes-length n (hexOf line n) (omega (arith, length-drop (length line - 2 * n) line))))
 
 module _ (line : List ℕ) (n : ℕ) (buffer buffer′ records : List ℕ) (l : Lent) (fits : n ≤ length buffer) (same : length buffer′ ≡ length buffer)
