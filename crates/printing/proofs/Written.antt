@@ -2,12 +2,12 @@
 use mathlib.Core.Path.{_≡_, refl, sym, ap, _∙_}
 use mathlib.Core.List.{List, [], _∷_, _++_, append-assoc, append-nil}
 use Prim.Native.Nat.{ℕ, zero, suc, _+_, _-_, _*_, _/_, _%_, _^_, _≤_, _<_}
-use native.Mathlib.Nat.{mod-eq-of-lt, pow-suc, pow-le-pow-right, lt-of-not-le}
+use native.Mathlib.Nat.{add-zero, mod-eq-of-lt, pow-suc, pow-le-pow-right, lt-of-not-le}
 use native.Mathlib.Numerals.{add-one, unary-clauses}
 use native.Mathlib.Omega.{arith}
 use borrow.Author.Tests.{lt-ltb, le-ltb}
-use lib.ListN.{length, take, drop, set, getD, length-append, length-set}
-use lib.Seq.{take-suc, take-suc-set, take-at}
+use lib.ListN.{length, take, drop, set, getD, length-append, length-set, take-append-drop}
+use lib.Seq.{take-suc, take-at, drop-drop, set-split}
 use Rattle.io.specs.Digits.{glyph, digits, Fewest}
 use Rattle.promise.specs.Filled.{recordsIn}
 use Rattle.requests.specs.Requests.{regionNumbers, replied}
@@ -15,24 +15,28 @@ use Rattle.requests.specs.Laws.{records-length, numbers-length, records-numbers
 use Rattle.requests.specs.declared.Reply.the-variants as reply-is
 use Rattle.printing.specs.Text.{decimal, decimalWith, hexText, bytesText, numbersText, regionsWord, blank, text}
 use Rattle.printing.specs.Writing.{Wrote}
+use Rattle.printing.specs.Laws.{wrote-front, wrote-back}
 
 -- ---- writing
 
 pub wrote-none : (at : ℕ) (out : List ℕ) → Wrote at out [] at out
-wrote-none at out = record { long = refl; end-is = omega arith; front = sym (append-nil (take at out)) }
+wrote-none at out = record { long = refl; end-is = omega arith; out-is = rw (add-zero, take-append-drop) }
 
 -- one text, then another
 pub wrote-more : {at e e₂ : ℕ} {out xs out₁ ys out₂ : List ℕ} → Wrote at out xs e out₁ → Wrote e out₁ ys e₂ out₂ → Wrote at out (xs ++ ys) e₂ out₂
 wrote-more {at} {e} {e₂} {out} {xs} {out₁} {ys} {out₂} a b =
+    let place : at + length (xs ++ ys) ≡ e + length ys = rw length-append (omega (arith, a .end-is)) in
+    let rest : drop (e + length ys) out₁ ≡ drop (e + length ys) out =
+    sym (drop-drop (length ys) e out₁) ∙ ap (drop (length ys)) (wrote-back a) ∙ drop-drop (length ys) e out in
     record {
       long = b .long ∙ a .long;
-      end-is = rw length-append (omega (arith, a .end-is, b .end-is));
-      front = b .front ∙ rw (a .front, append-assoc);
+      end-is = rw place (b .end-is);
+      out-is = b .out-is ∙ rw (wrote-front a, rest, place) (simp append-assoc);
     }
 
 -- one store
 wrote-one : (at c : ℕ) (out : List ℕ) → at < length out → Wrote at out (c ∷ []) (at + 1) (set out at c)
-wrote-one at c out h = record { long = length-set out at c; end-is = refl; front = rw add-one (take-suc-set out at c h) }
+wrote-one at c out h = record { long = length-set out at c; end-is = refl; out-is = rw add-one (set-split out at c h) }
 
 -- one store more
 pub wrote-next : {at e : ℕ} {out cs out₁ : List ℕ} (c : ℕ) → Wrote at out cs e out₁ → e < length out → Wrote at out (cs ++ (c ∷ [])) (e + 1) (set out₁ e c)

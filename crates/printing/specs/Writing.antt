@@ -1,18 +1,20 @@
 -- What it is to write text into a buffer after what stands there already.
 use mathlib.Core.Path.{_≡_}
-use mathlib.Core.List.{List, _++_}
-use Prim.Native.Nat.{ℕ, _+_, _*_, _≤_}
-use lib.ListN.{length, take}
+use mathlib.Core.Bool.{Bool, cond, _&&_}
+use mathlib.Core.List.{List, [], _++_}
+use Prim.Native.Nat.{ℕ, _+_, _*_}
+use lib.Dec.{leb}
+use lib.ListN.{length, take, drop}
 use Rattle.requests.specs.Requests.{replied}
 use Rattle.requests.specs.declared.Reply.{Reply}
 use Rattle.requests.specs.declared.Reply.the-variants as reply-is
 use Rattle.printing.specs.Text.{text}
 
--- the text stands after the first `at` bytes, and ends at `end`; what stands after it is the program's choice
+-- the text stands after the first `at` bytes and ends at `end`; nothing else is written
 pub record Wrote (at : ℕ) (out cs : List ℕ) (end : ℕ) (out′ : List ℕ) : Type 0 where
   pub long : length out′ ≡ length out
   pub end-is : end ≡ at + length cs
-  pub front : take end out′ ≡ take at out ++ cs
+  pub out-is : out′ ≡ take at out ++ (cs ++ drop (at + length cs) out)
 
 -- how many numbers of the records a reply shows
 abbrev pub shown : Reply → ℕ
@@ -29,13 +31,14 @@ shown (reply-is.Regions n) = 3 * n
 shown (reply-is.Refused k) = 0
 shown (reply-is.RefusedAfter k w) = 0
 
--- room for the longest answer of a session: 256 bytes, or 1,024 regions
-pub record Roomy (at : ℕ) (out : List ℕ) (r : Reply) (bytes records : List ℕ) : Type 0 where
-  pub room : at + 65536 ≤ length out
-  pub few-bytes : length bytes ≤ 256
-  pub few-records : length records ≤ 3072
-  pub records-are : shown r ≤ length records
+-- a session's longest answers are 256 bytes and the 3,072 numbers of 1,024 regions; at most 20 digits and a blank each, all of them fit in 65,536
+abbrev pub roomy : ℕ → List ℕ → Reply → List ℕ → List ℕ → Bool
+roomy at out r bytes records = leb (at + 65536) (length out) && leb (length bytes) 256 && leb (length records) 3072 && leb (shown r) (length records)
 
--- with that room the reply's text is written
+-- the reply's text, or none without that room
+unfoldable pub saidText : ℕ → List ℕ → Reply → List ℕ → List ℕ → List ℕ
+saidText at out r bytes records = cond (roomy at out r bytes records) (text (replied r bytes records)) []
+
+-- without room nothing is written, and it ends where it began
 abbrev pub Says : ℕ → List ℕ → Reply → List ℕ → List ℕ → ℕ → List ℕ → Type 0
-Says at out r bytes records end out′ = Roomy at out r bytes records → Wrote at out (text (replied r bytes records)) end out′
+Says at out r bytes records end out′ = Wrote at out (saidText at out r bytes records) end out′

@@ -6,8 +6,10 @@ use parts::put_hex;
 use parts::put_number;
 use parts::put_numbers;
 use requests::Reply;
-ghost use mathlib.Core.List.{_++_};
+ghost use mathlib.Core.Bool.{cond};
+ghost use mathlib.Core.List.{[], _++_};
 ghost use Prim.Native.Nat.{_+_, _≤_};
+ghost use lib.Dec.{leb};
 ghost use lib.ListN.{length};
 ghost use Rattle.printing.specs.Text.{decimal, bytesWord, bytesText, regionsWord, numbersText, noWord, blank, badLine};
 ghost use Rattle.printing.specs.Writing.{Wrote, Says};
@@ -53,7 +55,7 @@ fn put_refusal(out: &mut [u8], at: usize, k: u32, w: u32) -> usize
     put_pair(out, next, b" ", w as u64)
 }
 
-// The text of a reply; where there isn't room nothing is written.
+// The text of a reply; where there isn't room for the longest answer (`roomy`) nothing is written.
 pub fn say(out: &mut [u8], at: usize, reply: Reply, bytes: &[u8], records: &[u32]) -> usize
     ensures { λ r. ⌜ Says at (now (out .entry)) reply (now (bytes .entry)) (now (records .entry)) r (now (out .exit)) ⌝ }
 {
@@ -103,9 +105,9 @@ pub fn say(out: &mut [u8], at: usize, reply: Reply, bytes: &[u8], records: &[u32
     }
 }
 
-// The answer to a line that is no call.
+// The answer to a line that is no call; where there isn't room nothing is written.
 pub fn say_bad_line(out: &mut [u8], at: usize) -> usize
-    ensures { λ r. ⌜ (at + 8 ≤ length (now (out .entry)) → Wrote at (now (out .entry)) badLine r (now (out .exit))) ⌝ }
+    ensures { λ r. ⌜ Wrote at (now (out .entry)) (cond (leb (at + 8) (length (now (out .entry)))) badLine []) r (now (out .exit)) ⌝ }
 {
     if out.len() < at {
         return at;

@@ -1,11 +1,11 @@
 -- A line's request on the session's memory: it is the line's call, and a start within the limits finds room.
 use mathlib.Core.Path.{_≡_, refl, ap, _∙_, subst}
-use mathlib.Core.Bool.{Bool, true, false, not, _&&_}
+use mathlib.Core.Bool.{Bool, true, false, cond, not, _&&_}
 use mathlib.Core.List.{List, [], _∷_}
 use Prim.Native.Nat.{ℕ, zero, suc, _+_, _-_, _*_, _/_, _≤_, _<_}
 use native.Mathlib.Nat.{mul-le-mul-left, pow-le-pow-right}
 use native.Mathlib.Omega.{arith}
-use borrow.Author.Tests.{leb-true}
+use borrow.Author.Tests.{leb-true, le-leb}
 use lib.Dec.{leb}
 use lib.ListN.{length, take, drop, length-drop, length-append}
 use lib.Seq.{length-take-le, take-at}
@@ -29,7 +29,8 @@ use Rattle.parsing.specs.Laws.{few-bytes, write-hex}
 use Rattle.parsing.specs.declared.Line.{Line}
 use Rattle.parsing.specs.declared.Line.the-variants.{Call, Bad}
 use Rattle.printing.specs.Text.{badLine, text}
-use Rattle.printing.specs.Writing.{Wrote, shown, Roomy as Sayable, Says}
+use Rattle.printing.specs.Writing.{Wrote, shown, Says}
+use Rattle.printing.specs.Laws.{said-whole}
 use Rattle.session.specs.Session.{beyond, lineCall, LineAnswer, answeredCall, answeredAs, answered}
 use Rattle.session.specs.Room.{Board, Answers, AnswersLine}
 use Rattle.session.specs.Filling.{FillsBytes, CallAnswered}
@@ -143,14 +144,17 @@ module _ (line : List ℕ) (k : Memory) (at : ℕ) (out buffer records : List �
       → answered line (lengths k) m ≡ answeredCall q n line (lengths k) m over
   called m q n over e b = ap (λ (x : Line). answeredAs x line (lengths k) m) e ∙ ap (answeredCall q n line (lengths k) m) b
 
-  pub bad-answered : parsed line ≡ Bad → k′ ≡ k → (at + 8 ≤ length out → Wrote at out badLine end out′) → AnswersLine line k at out buffer records end k′ out′
-  bad-answered e same wrote m S d = answers-as m _ (ap (λ (x : Line). answeredAs x line (lengths k) m) e) (wrote (omega (arith, d .room))) (rw same S)
+  pub bad-answered : parsed line ≡ Bad → k′ ≡ k → Wrote at out (cond (leb (at + 8) (length out)) badLine []) end out′
+      → AnswersLine line k at out buffer records end k′ out′
+  bad-answered e same wrote m S d =
+      let whole = rw (le-leb (at + 8) (length out) (omega (arith, d .room))) at wrote in
+      answers-as m _ (ap (λ (x : Line). answeredAs x line (lengths k) m) e) whole (rw same S)
 
   pub beyond-answered : (q : Request) (n : ℕ) → parsed line ≡ Call q n → beyond q ≡ true → k′ ≡ k → Says at out (reply-is.Refused 1) [] [] end out′
       → AnswersLine line k at out buffer records end k′ out′
   beyond-answered q n e over same says m S d =
-      answers-as m _ (called m q n true e over)
-      (says (record { room = d .room; few-bytes = omega arith; few-records = omega arith; records-are = omega arith })) (rw same S)
+      let whole = rw (said-whole at out (reply-is.Refused 1) [] [] (d .room) (omega arith) (omega arith) (omega arith)) at says in
+      answers-as m _ (called m q n true e over) whole (rw same S)
 
   -- no line has more bytes than the buffer
   pub short-answered : (q : Request) (n : ℕ) → parsed line ≡ Call q n → length buffer < n → AnswersLine line k at out buffer records end k′ out′
@@ -165,12 +169,8 @@ module _ (line : List ℕ) (k : Memory) (at : ℕ) (out buffer records : List �
       let told = f .answer-is ∙ ap (answer m) c in
       let few = few-bytes line q n e in
       let long = a .bytes-long ∙ length-take-le n filled (omega arith) in
-      let room : Sayable at out (a .reply) (a .bytes′) (a .records′) =
-      record {
-        room = d .room;
-        few-bytes = omega arith;
-        few-records = omega (arith, d .numbers, a .records-long);
-        records-are = shown-fits (a .reply) (a .bytes′) records (a .records′) (s .records-are);
-      } in
-      answers-as m _ (called m q n false e under) (subst (λ (x : Answer). Wrote at out (text x) end out′) told (a .says room))
+      let shows = shown-fits (a .reply) (a .bytes′) records (a .records′) (s .records-are) in
+      let few-records : length (a .records′) ≤ 3072 = omega (arith, d .numbers, a .records-long) in
+      let whole = rw (said-whole at out (a .reply) (a .bytes′) (a .records′) (d .room) (omega arith) few-records shows) at (a .says) in
+      answers-as m _ (called m q n false e under) (subst (λ (x : Answer). Wrote at out (text x) end out′) told whole)
       (subst (λ (x : MachineCall). Stands (after m x) k′) c (f .stands))
