@@ -1,25 +1,31 @@
--- Document 01's session, finds and sizes, by computing from the definitions.
+-- Document 01's session, finds and sizes, by computing from the definitions: the session as calls, and as lines of text.
 use mathlib.Core.Path.{_≡_, refl}
 use mathlib.Core.Bool.{Bool, false}
 use mathlib.Core.List.{List, [], _∷_, _++_, map}
 use mathlib.Core.Option.{Option, none, some}
 use Prim.Native.Nat.{ℕ, suc}
+use Prim.Native.Char.{code}
+use Prim.Native.String.{String, [] as empty, _∷_ as _then_}
 use lib.Dec.{eqb}
 use lib.ListN.{replicate}
 use Rattle.sequence.specs.Lists.{tabulate}
 use Rattle.places.specs.Places.{lastBelow, wordsRead, size}
-use Rattle.machine.specs.Machine.{sizes, Lent, unstarted, Call, start, mark, drop, touch, look, release, Answer, done, old, new, absent, pages, at, refused}
-use Rattle.machine.specs.Machine.{refusedAfter, answers, afterAll, step, asked, accepted, sizesOk, isPageSize, enough, startIn, frameIn, firstAbsence}
-use Rattle.machine.specs.Machine.{anyOutside, countAbsent, touchAll, stored, untilStart, records}
+use Rattle.machine.specs.Machine.{sizes, Lent, State, unstarted, Call, start, mark, drop, touch, look, release, Answer, done, old, new, absent, pages}
+use Rattle.machine.specs.Machine.{refused, refusedAfter, answers, afterAll, step, asked, accepted, sizesOk, isPageSize, enough, startIn, frameIn}
+use Rattle.machine.specs.Machine.{firstAbsence, anyOutside, countAbsent, touchAll, stored, untilStart, records}
+use Rattle.fields.specs.Fields.{begins, digitsAfter}
+use Rattle.parsing.specs.Grammar.{parsed}
+use Rattle.printing.specs.Text.{decimalWith}
+use Rattle.session.specs.Session.{answered}
 
 -- every buffer as long as it may ever have to be
 abbrev pub all : Lent
 all = record { index = 4161; count = 262144; table = 262144; helper = 262144; stack = 262144; cache = 262144; link = 65536; ram = 4294967296 }
 
--- ---- "One session whole"
+-- ---- "One session whole", as calls
 
-abbrev firstTen : List Call
-firstTen =
+abbrev session : List Call
+session =
     start (sizes 1 8 3 256) all
     ∷ mark 0 0 all
     ∷ mark 0 4 all
@@ -30,15 +36,7 @@ firstTen =
     ∷ touch 0 7 all
     ∷ mark 0 6 all
     ∷ release 0 4 all
-    ∷ []
-
-abbrev firstTenSay : List Answer
-firstTenSay = done ∷ done ∷ done ∷ new 0 1 ∷ new 1 1 ∷ new 2 1 ∷ old 0 ∷ refusedAfter 8 1 ∷ refused 7 ∷ pages 2 ∷ []
-
-abbrev session : List Call
-session =
-    firstTen
-    ++ look 0 5 all
+    ∷ look 0 5 all
     ∷ touch 0 2 all
     ∷ look 0 9 all
     ∷ drop 0 4 all
@@ -56,7 +54,10 @@ unfolding answers step asked accepted sizesOk isPageSize enough size tabulate st
     touchAll stored untilStart records
 played calls = answers (unstarted ram) calls
 
-session-says : played session ≡ firstTenSay ++ absent 1 ∷ new 2 1 ∷ refusedAfter 3 0 ∷ done ∷ new 0 1 ∷ pages 3 ∷ refused 6 ∷ []
+session-says :
+    played session
+    ≡ done ∷ done ∷ done ∷ new 0 1 ∷ new 1 1 ∷ new 2 1 ∷ old 0 ∷ refusedAfter 8 1 ∷ refused 7 ∷ pages 2
+    ∷ absent 1 ∷ new 2 1 ∷ refusedAfter 3 0 ∷ done ∷ new 0 1 ∷ pages 3 ∷ refused 6 ∷ []
 unfolding played
 session-says = refl
 
@@ -65,10 +66,65 @@ session-pool : afterAll (unstarted ram) session .pool ≡ 0 ∷ 2 ∷ 1 ∷ []
 unfolding afterAll played
 session-pool = refl
 
+-- ---- the same as lines: bytes in, bytes out
+
+-- a text's characters by their numbers, which are its bytes if it is ASCII
+abbrev codes : String → List ℕ
+codes empty = []
+codes (c then s) = code c ∷ codes s
+
+-- each line with its answer beside it, without the LF that ends them
+abbrev firstTen : List (String × String)
+firstTen =
+    ("start 1 8 3 256", "ok")
+    ∷ ("mark 0 0", "ok")
+    ∷ ("mark 0 4", "ok")
+    ∷ ("touch 0 5", "frame 0 new 1")
+    ∷ ("touch 0 1", "frame 1 new 1")
+    ∷ ("touch 0 6", "frame 2 new 1")
+    ∷ ("touch 0 5", "frame 0 old 0")
+    ∷ ("touch 0 7", "no 8 1")
+    ∷ ("mark 0 6", "no 7")
+    ∷ ("release 0 4", "pages 2")
+    ∷ []
+
+abbrev lines : List (String × String)
+lines =
+    firstTen
+    ++ ("look 0 5", "absent 1")
+    ∷ ("touch 0 2", "frame 2 new 1")
+    ∷ ("look 0 9", "no 3 0")
+    ∷ ("drop 0 4", "ok")
+    ∷ ("touch 0 7", "frame 0 new 1")
+    ∷ ("release 0 0", "pages 3")
+    ∷ ("mark 0 0", "no 6")
+    ∷ []
+
+-- as long as the buffers of the session program
+abbrev lent : Lent
+lent = record { index = 17; count = 1024; table = 1024; helper = 1024; stack = 1024; cache = 1024; link = 128; ram = 32768 }
+
+-- what the session answers to lines one after another, with its definitions open
+unfoldable answersFrom : State → List (List ℕ) → List (List ℕ)
+unfolding played parsed begins digitsAfter decimalWith
+answersFrom m [] = []
+answersFrom m (l ∷ ls) = let r = answered l lent m in r .answer-text ∷ answersFrom (r .after) ls
+
+-- from no start made, on a RAM of zeros
+abbrev answersTo : List (String × String) → List (List ℕ)
+answersTo ls = answersFrom (unstarted (replicate 32768 0)) (map (λ l. codes (l .0)) ls)
+
+abbrev expected : List (String × String) → List (List ℕ)
+expected ls = map (λ l. codes (l .1)) ls
+
+session-lines : answersTo lines ≡ expected lines
+unfolding answersFrom
+session-lines = refl
+
 -- ---- the table that is proved: the session's first ten lines, and the finds marked (P)
 
 data Shown : Type 0 where
-  line : Answer → Shown
+  line : (bytes : List ℕ) → Shown
   found : Option ℕ → ℕ → Shown
 
 abbrev findAt : ℕ → (ℕ → Bool) → ℕ → Shown
@@ -78,21 +134,21 @@ no-start : ℕ → Bool
 no-start q = false
 
 table :
-    map line (played firstTen)
+    map line (answersTo firstTen)
     ++ findAt 64 no-start 5
     ∷ findAt 4096 (eqb 0) 64
     ∷ findAt 4097 (eqb 0) 4096
     ∷ findAt 4096 (eqb 70) 69
     ∷ findAt 4096 (eqb 70) 128
     ∷ []
-    ≡ map line firstTenSay
+    ≡ map line (expected firstTen)
     ++ found none 1
     ∷ found (some 0) 3
     ∷ found (some 0) 5
     ∷ found none 2
     ∷ found (some 70) 3
     ∷ []
-unfolding played no-start
+unfolding answersFrom no-start
 table = refl
 
 -- "T = 64 takes 1 word, T = 65 takes 3, T = 4,097 takes 68, T = 262,144 takes 4,161"
