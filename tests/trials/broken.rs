@@ -1,7 +1,7 @@
 // Entrances that are wrong in one way each, to try the trials on: `run.sh broken` builds the trials over
 // them and demands that every one is found. Each is the library's call, with one thing done amiss.
 use crate::entrance::{ask_library, Answer, Head, Loan};
-use crate::entrance::{ABSENT, BYTES, DONE, NEW, OLD, PAGES, REGIONS, RESIDENT};
+use crate::entrance::{ABSENT, BYTES, DONE, FRAMES, NEW, OLD, PAGES, REGIONS, RESIDENT};
 use crate::plain::{Ask, Sizes};
 use std::sync::OnceLock;
 
@@ -288,6 +288,14 @@ const FAULTS: &[(&str, Fault)] = &[
         }
         answer
     }),
+    ("free counts frames that there are not", |m, answer| match m.ask {
+        Ask::Free if answer.kind == 9 && m.head.fresh <= m.head.frames => Answer {
+            kind: FRAMES,
+            value: u64::from(m.head.many) + u64::from(m.head.frames - m.head.fresh),
+            ..answer
+        },
+        _ => answer,
+    }),
     // ---- translate, read, write and list
     (
         "translate has 15 bits of a page of 65,536 bytes",
@@ -326,6 +334,15 @@ const FAULTS: &[(&str, Fault)] = &[
             let next = unsafe { ask_library(&last, m.loan) }.value + 1;
             if next < m.sizes.needed()[RAM] {
                 m.flip_byte(m.loan.at[RAM], next as usize);
+            }
+        }
+        answer
+    }),
+    ("write maps nothing and changes the head", |m, answer| {
+        let now = unsafe { *m.loan.head };
+        if let (Ask::Write(..), DONE) = (m.ask, answer.kind) {
+            if (now.many, now.fresh) == (0, m.head.fresh) && m.head.many == 0 {
+                m.change_head(|head| head.first ^= 1);
             }
         }
         answer

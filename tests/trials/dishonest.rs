@@ -353,7 +353,7 @@ impl Round {
                 Err("with a value".to_string())
             };
         }
-        self.judge_value(call, answer)?;
+        self.judge_value(call, before, answer)?;
         self.judge_changes(call, before, answer, own)
     }
 
@@ -363,10 +363,16 @@ impl Round {
         self.hold([0; PARTS], [0; PARTS])
     }
 
-    fn judge_value(&self, call: &Call, answer: &Answer) -> Result<(), String> {
+    // No frame is told of but those that there are.
+    fn judge_value(&self, call: &Call, before: &Head, answer: &Answer) -> Result<(), String> {
+        let sizes = before.sizes();
         let is_right = match call.ask {
             Ask::Read(_, _, count) => answer.value == count,
             Ask::List(_, room) => answer.value <= room,
+            Ask::Touch(..) => answer.value < sizes.frames,
+            Ask::Look(..) if answer.kind == entrance::RESIDENT => answer.value < sizes.frames,
+            Ask::Translate(..) => answer.value < sizes.frames * sizes.page,
+            Ask::Free => answer.value <= sizes.frames,
             _ if matches!(answer.kind, entrance::DONE | entrance::ABSENT) => answer.value == 0,
             _ => true,
         };
@@ -407,14 +413,21 @@ impl Round {
             Ask::Touch(..) if answer.kind == entrance::NEW => {
                 most[COUNT..=LINK].fill(1);
                 most[HEAD] = 7;
+                if self.mapped(before) != Some(1) {
+                    return Err("and took not one frame".to_string());
+                }
             }
             Ask::Release(..) => (most[COUNT], most[LINK], most[HEAD]) = (1, 1, 7),
             Ask::Read(..) => (most[OWN], needed[OWN]) = (own, own),
             Ask::Write(_, address, bytes) if !bytes.is_empty() => {
                 let span = sizes.span(*address, bytes.len() as u64);
-                most[COUNT..=LINK].fill((span.end - span.start) as usize);
+                let mapped = self.mapped(before).unwrap_or(u64::MAX);
+                if mapped > span.end - span.start {
+                    return Err("and took other frames than its pages may need".to_string());
+                }
+                most[COUNT..=LINK].fill(mapped as usize);
                 most[RAM] = bytes.len();
-                most[HEAD] = 7;
+                most[HEAD] = if mapped == 0 { 0 } else { 7 };
             }
             // "Records after the last stay unchanged"
             Ask::List(..) => {
@@ -438,6 +451,12 @@ impl Round {
         } else {
             Err("other sizes in the head".to_string())
         }
+    }
+
+    // By how many frames the head has fewer to give: so many pages were mapped.
+    fn mapped(&self, before: &Head) -> Option<u64> {
+        let left = |h: &Head| u64::from(h.many) + u64::from(h.frames.saturating_sub(h.fresh));
+        left(before).checked_sub(left(&self.memory.head()))
     }
 
     // No more words changed than these, and none but those needed.

@@ -11,11 +11,11 @@ use Rattle.memory.specs.Memory.{Memory, sizesOf, lengths}
 use Rattle.promise.specs.Holds.{Roomy}
 use Rattle.promise.specs.Did.{Did}
 use Rattle.laws.specs.Refusals.{passed-step}
-use Rattle.demands.specs.History.{Event, Run, none, next}
+use Rattle.demands.specs.History.{Event, lent-front, Run, none, next}
 use Rattle.demands.specs.Demands.{machineAt, Demand3}
 use Rattle.demands.specs.Theorems.{demand-3}
 use Rattle.requests.specs.Requests.{requested}
-use Rattle.serving.specs.Steps.{RoomFor, whole-step, Stands, serve-follows}
+use Rattle.serving.specs.Steps.{whole-step, Stands, serve-follows}
 use Rattle.requests.specs.declared.Request.{Request}
 use Rattle.requests.specs.declared.Request.the-variants.{Start, Page, Free, Translate, Read, Write, List as Listing}
 use Rattle.decoding.specs.declared.Parts.{Parts}
@@ -24,7 +24,7 @@ use Rattle.decoding.specs.declared.Code.the-variants.{Call, Unreadable}
 use Rattle.codes.specs.Codes.{codeAt}
 use Rattle.codes.specs.Plays.{Desk, called, laid, Played, playOne, plays, Turns}
 use Rattle.codes.specs.Plays.Turns.{none as no-turn, skip, turn}
-use Rattle.codes.specs.Promise.{RoomIn, Rooms, byMachine, StartsFirst, Plays}
+use Rattle.codes.specs.Promise.{byMachine, StartsFirst, Plays}
 
 -- ---- codes after codes
 
@@ -35,70 +35,27 @@ module _ (codes : List ℕ) (wholeBytes wholeRecords : ℕ) where
   turns-append (skip e t) u = rw suc-add (skip e (turns-append t (rw (add-suc, ← suc-add) at u)))
   turns-append (turn e did same t) u = rw suc-add (turn e did same (turns-append t (rw (add-suc, ← suc-add) at u)))
 
--- ---- room stays, the lengths being the same
-
-roomy-moves : (z : Sizes) (k k₁ : Memory) → lengths k₁ ≡ lengths k → Roomy z k → Roomy z k₁
-roomy-moves z k k₁ e r =
-    record {
-      index = rw (ap (λ (x : Lent). x .index) e) (r .index);
-      count = rw (ap (λ (x : Lent). x .count) e) (r .count);
-      table = rw (ap (λ (x : Lent). x .table) e) (r .table);
-      helper = rw (ap (λ (x : Lent). x .helper) e) (r .helper);
-      stack = rw (ap (λ (x : Lent). x .stack) e) (r .stack);
-      cache = rw (ap (λ (x : Lent). x .cache) e) (r .cache);
-      link = rw (ap (λ (x : Lent). x .link) e) (r .link);
-      ram = rw (ap (λ (x : Lent). x .ram) e) (r .ram);
-    }
-
-module _ (k k₁ : Memory) (same : lengths k₁ ≡ lengths k) where
-  room-moves : (q : Request) → RoomFor q k → RoomFor q k₁
-  unfolding asked
-  room-moves (Start s n f p) room bytes records e =
-      roomy-moves _ k k₁ same (room bytes records (subst (λ (l : Lent). asked (sizesOf (k .head)) (requested (Start s n f p) bytes records l) ≡ 0) same e))
-  room-moves (Page p i b) room bytes records e = tt
-  room-moves Free room bytes records e = tt
-  room-moves (Translate i x) room bytes records e = tt
-  room-moves (Read i x) room bytes records e = tt
-  room-moves (Write i x) room bytes records e = tt
-  room-moves (Listing i) room bytes records e = tt
-
-  room-in-moves : (c : Code) → RoomIn c k → RoomIn c k₁
-  room-in-moves Unreadable room = tt
-  room-in-moves (Call q p) room = room-moves q room
-
 module _ (codes : List ℕ) (wholeBytes wholeRecords : ℕ) where
-  rooms-rest : (j n : ℕ) (k k₁ : Memory) → lengths k₁ ≡ lengths k → Rooms codes wholeBytes wholeRecords j (suc n) k
-      → Rooms codes wholeBytes wholeRecords (suc j) n k₁
-  rooms-rest j n k k₁ same rooms i h =
-      let e : j + suc i ≡ suc j + i = omega arith in
-      room-in-moves k k₁ same (codeAt codes wholeBytes wholeRecords (suc j + i))
-      (subst (λ (i : ℕ). RoomIn (codeAt codes wholeBytes wholeRecords i) k) e (rooms (suc i) (omega arith)))
-
-  rooms-first : (j n : ℕ) (k : Memory) (q : Request) (p : Parts) → codeAt codes wholeBytes wholeRecords j ≡ Call q p
-      → Rooms codes wholeBytes wholeRecords j (suc n) k → RoomFor q k
-  rooms-first j n k q p e rooms = subst (λ (c : Code). RoomIn c k) e (rw add-zero at (rooms 0 (omega arith)))
-
   -- ---- a sequence, and the plain machine beside it
 
   pub turns-run : {j n : ℕ} {k k′ : Memory} {d d′ : Desk} {es : List Event} → Turns codes wholeBytes wholeRecords j n k d es k′ d′
-      → Rooms codes wholeBytes wholeRecords j n k → Run k es k′
-  turns-run no-turn rooms = none
-  turns-run {j} (skip {n = n} {k = k} e t) rooms = turns-run t (rooms-rest j n k k refl rooms)
-  turns-run {j} (turn {n = n} {k = k} {k₁ = k₁} {q = q} {p = p} {a = a} e did same t) rooms =
-      next (whole-step q _ _ k a k₁ (rooms-first j n k q p e rooms) did) (turns-run t (rooms-rest j n k k₁ same rooms))
+      → Run k es k′
+  turns-run no-turn = none
+  turns-run (skip e t) = turns-run t
+  turns-run (turn {k = k} {k₁ = k₁} {q = q} {a = a} e did same t) = next (lent-front (whole-step q _ _ k a k₁ did)) (turns-run t)
 
   pub record Beside (x : Played) (k′ : Memory) (d′ : Desk) : Type 0 where
     pub desk-is : d′ ≡ x .desk
     pub stands : Stands (x .state) k′
 
   pub turns-beside : {j n : ℕ} {k k′ : Memory} {d d′ : Desk} {es : List Event} (m : State) → Turns codes wholeBytes wholeRecords j n k d es k′ d′ → Stands m k
-      → Rooms codes wholeBytes wholeRecords j n k → Beside (plays codes wholeBytes wholeRecords (lengths k) j n (record { state = m; desk = d })) k′ d′
+      → Beside (plays codes wholeBytes wholeRecords (lengths k) j n (record { state = m; desk = d })) k′ d′
   unfolding plays
-  turns-beside m no-turn S rooms = record { desk-is = refl; stands = S }
-  turns-beside {j} m (skip {n = n} {k = k} e t) S rooms = rw e (turns-beside m t S (rooms-rest j n k k refl rooms))
-  turns-beside {j} m (turn {n = n} {k = k} {k₁ = k₁} {d = d} {q = q} {p = p} {a = a} e did same t) S rooms =
-      let f = serve-follows m k q _ _ a k₁ S (rooms-first j n k q p e rooms) did in
-      let rest = turns-beside (after m (called q p d (lengths k))) t (f .stands) (rooms-rest j n k k₁ same rooms) in
+  turns-beside m no-turn S = record { desk-is = refl; stands = S }
+  turns-beside m (skip e t) S = rw e (turns-beside m t S)
+  turns-beside m (turn {k = k} {k₁ = k₁} {d = d} {q = q} {p = p} {a = a} e did same t) S =
+      let f = serve-follows m k q _ _ a k₁ S did in
+      let rest = turns-beside (after m (called q p d (lengths k))) t (f .stands) in
       rw (e, ← f .answer-is) (rw same at rest)
 
 -- ---- demands 2 and 3
@@ -120,7 +77,7 @@ record FromStart (codes : List ℕ) (n : ℕ) (z : Sizes) (k : Memory) (d : Desk
   first : Event
   later : List Event
   events-are : es ≡ first ∷ later
-  demand : Demand3 (begun z []) k later k′ (machineAt (begun z []) k later)
+  demand : Roomy (machineAt (begun z []) k later .sizes) k′ → Demand3 (begun z []) k later k′ (machineAt (begun z []) k later)
 
 from-start : {n : ℕ} {k k′ : Memory} {d d′ : Desk} {es : List Event} (codes : List ℕ) (z : Sizes) → StartsFirst codes n k d z
     → Turns codes (length (d .bytes)) (length (d .records)) 0 n k d es k′ d′ → FromStart codes n z k d es k′ d′
@@ -133,12 +90,9 @@ from-start codes z b (turn {n = n} {k = k} {k₁ = k₁} {d = d} {q = q} {p = p}
     let same-request : q ≡ Start (z .spaces) (z .pages) (z .frames) (z .page) = cc (b .first) in
     let started : Did (start z) k a k₁ = rw same-request at did in
     let begins = started .begins (b .accepted) in
-    let room = rooms-first codes bytes records 0 n k q p e (b .rooms) in
-    let room-of : Roomy z k = (rw same-request at room) [] [] (b .accepted) in
-    let rooms = rooms-rest codes bytes records 0 n k k₁ same (b .rooms) in
     let move = ap (λ (c : Code). playOne 0 (lengths k) c (record { state = unstarted (k .ram); desk = d })) e
     ∙ first-play z k d q p a same-request (begins .0) (b .accepted) in
-    let beside = turns-beside codes bytes records (begun z (k .ram)) t (inl (begins .1 room-of)) rooms in
+    let beside = turns-beside codes bytes records (begun z (k .ram)) t (inl (begins .1)) in
     record {
       desk-is = (rw same at (beside .desk-is)) ∙ ap (λ (x : Played). plays codes bytes records (lengths k) 1 n x .desk) (sym move);
       first = _;
@@ -151,9 +105,9 @@ from-start codes z b (turn {n = n} {k = k} {k₁ = k₁} {d = d} {q = q} {p = p}
               first = record { call = start z; lent = lengths k; answer = done };
               begins = refl;
               accepted = refl;
-              step = whole-step (Start (z .spaces) (z .pages) (z .frames) (z .page)) [] [] k done k₁ (λ _ _ _. room-of) (rw (begins .0) at started);
+              step = whole-step (Start (z .spaces) (z .pages) (z .frames) (z .page)) [] [] k done k₁ (rw (begins .0) at started);
             };
-            run = turns-run codes bytes records t rooms;
+            run = turns-run codes bytes records t;
           });
     }
 
@@ -164,6 +118,6 @@ played codes es t =
       events = es;
       turns = t;
       demand-2 = λ z b. from-start codes z b t .desk-is;
-      honest = λ m S rooms. let b = turns-beside codes _ _ m t S rooms in (b .desk-is, b .stands);
+      honest = λ m S. let b = turns-beside codes _ _ m t S in (b .desk-is, b .stands);
       demand-3 = λ z b. let f = from-start codes z b t in (f .first, f .later, f .events-are, f .demand);
     }

@@ -1,4 +1,5 @@
--- The three demands, with the user's words beside each clause, and nothing else. `Did` (crate promise) is what the contract of every call states.
+-- The three demands, clause by clause: in quotation marks the user's words, or, where it is said, document 01's. `Did` (crate promise) is what the
+-- contract of every call states.
 use mathlib.Core.Path.{_≡_}
 use mathlib.Core.Bool.{true}
 use mathlib.Core.List.{List, [], _∷_, _++_, map}
@@ -15,19 +16,22 @@ use Rattle.machine.specs.Machine.{State, Lent, Call, release, free, translate, 
 use Rattle.machine.specs.Machine.{frames, regions, answers, after, afterAll}
 use Rattle.machine.specs.Claims.{residentPages, timesFree, timesHeld, isRefused, Address, Same, Spared}
 use Rattle.memory.specs.Memory.{Memory, sizesOf, lengths}
+use Rattle.promise.specs.Holds.{Roomy}
 use Rattle.promise.specs.Did.{Exactly, Tables, Did}
 use Rattle.promise.specs.Filled.{ReadDid, ListDid}
 use Rattle.demands.specs.History.{Event, calls, Beginning, Run}
 
--- ---- Demand 1. "Any sizes, numbers and buffers: every call ends, does nothing undefined, asks nothing of its caller; a refusal has
--- document 01's number and changes nothing." That every call ends and does nothing undefined is what it is for a function to be proved,
--- and none has a `requires`; the rest, of every call on any memory:
+-- ---- Demand 1. "For any sizes, numbers and buffers a call ends and does nothing undefined. It asks nothing of its caller." That is what it is for a
+-- function to be proved that has no `requires`; so is "Memory our calls didn't leave may get a wrong answer, never an undefined step". The rest:
+-- "A refusal gives its number from document 01 and changes neither lent memory nor the head record", of every call on any memory
 
 pub record Demand1 (c : Lent → Call) (k : Memory) (a : Answer) (k′ : Memory) : Type 0 where
-  pub numbers : Exactly (asked (sizesOf (k .head)) (c (lengths k))) (c (lengths k)) a
+  -- 1 to 3 where document 01 states them, and no number that isn't the call's
+  pub numbers : Exactly (asked (sizesOf (k .head)) (c (lengths k))) (sizesOf (k .head)) (c (lengths k)) a
+  -- k is the head and all that is lent
   pub refusals : isRefused a ≡ true → k′ ≡ k
 
--- "Every refusal leaves .. the read buffer and the record slice as they stood"
+-- the read buffer and the record slice are lent too
 abbrev pub Demand1Read : Type 0
 Demand1Read =
     (i x : ℕ) (k : Memory) (r : Copied) (buffer buffer′ : List ℕ) → ReadDid i x k r buffer buffer′ → (n : ℕ) → r ≡ copied-is.Refused n → buffer′ ≡ buffer
@@ -35,26 +39,29 @@ Demand1Read =
 abbrev pub Demand1List : Type 0
 Demand1List = (i : ℕ) (k : Memory) (r : Listed) (slice slice′ : List ℕ) → ListDid i k r slice slice′ → (n : ℕ) → r ≡ listed-is.Refused n → slice′ ≡ slice
 
--- ---- an accepted beginning on memory that held anything, and every sequence of calls after it; what begins a state today is a start
+-- ---- "every sequence of calls .., and of refused starts, from an accepted start, whatever the lent memory held before it. Refused calls are included.
+-- Each call gets the head, index, tables and RAM as the last one left them, and nobody else writes them." A later accepted start may stand in it too
 
--- the machine "begins with the accepted start and the RAM as it then stands"
+-- document 01: the machine "begins with the accepted start and the RAM as it then stands, and gets the same calls with the lengths of the buffers lent to
+-- them"
 abbrev pub machineAt : State → Memory → List Event → State
 machineAt m k es = afterAll (withRam m (k .ram)) (calls es)
 
--- "The memory is long enough for the accepted start's sizes" (Step.room); nothing else is known of k
+-- nothing is known of k, not even that buffers are long enough that the start isn't lent
 pub record Sequence (m : State) (k : Memory) (es : List Event) (k′ : Memory) : Type 0 where
   pub started : Memory
   pub beginning : Beginning m k started
   pub run : Run started es k′
 
--- ---- Demand 2. "From an accepted start, on memory only the pager changes, every answer is the plain machine's, whatever the five unprepared tables held."
+-- ---- Demand 2. "From an accepted start, on memory that only the pager's calls change, each call given the head the last one left, every answer is the
+-- one the plain machine of document 01 gives for the same calls, refusals and frame numbers too, and no other, whatever the five unprepared tables held."
 
 abbrev pub Demand2 : Type 0
 Demand2 = (m : State) (k k′ : Memory) (es : List Event) → Sequence m k es k′ → map (λ e. e .answer) es ≡ answers (withRam m (k .ram)) (calls es)
 
--- ---- Demand 3. "One claim over every sequence of calls"
+-- ---- Demand 3. Document 01: "one claim about the whole sequence of calls, not one for each call"
 
--- a byte stored by an accepted write, and spared by every call after it
+-- "A byte stored through an address": by an accepted write, and neither "stored again" nor "its region is released" by a call after it
 pub record StoredAt (m : State) (k : Memory) (es : List Event) (i x v : ℕ) : Type 0 where
   pub before : List Event
   pub later : List Event
@@ -67,30 +74,34 @@ pub record StoredAt (m : State) (k : Memory) (es : List Event) (i x v : ℕ) : T
   pub value-is : getD values (x - from) 0 ≡ v
   pub spared : Spared (after (machineAt m k before) (write i from values lent)) i x (calls later)
 
--- translate, free, read, list and release are "the pager's own, called next with all of that memory as the sequence left it"
+-- "After the sequence, with resident pages and pool as on the plain machine", m. Document 01: translate, free, read, list and release are "the pager's
+-- own, called next with all of that memory as the sequence left it"
 pub record Demand3 (begun : State) (k : Memory) (es : List Event) (k′ : Memory) (m : State) : Type 0 where
-  -- "translate answers each resident address with the machine's place, frame x P + offset"
+  -- document 01: "translate answers each resident address with the machine's place, frame x P + offset"
   pub translated : (i x p : ℕ) → Address (m .sizes) i x → ramAt m i x ≡ some p → (a : Answer) (k″ : Memory) → Did (translate i x) k′ a k″ → a ≡ at p
-  -- 1. "no two resident addresses share a byte"
+  -- "two different resident addresses, in one space or two, never translate to the same RAM byte"
   pub apart : (i x j y p : ℕ) (a b : Memory) → Did (translate i x) k′ (at p) a → Did (translate j y) k′ (at p) b → Same i x j y
-  -- 2. "each frame is once in the pool or held once"
+  -- "Each frame is either once in the pool or held by exactly one resident page."
   pub held : (f : ℕ) → f < m .sizes .frames → timesFree f m + timesHeld f m ≡ 1
-  -- 3. "free + resident = F", "and the records that list gives for all spaces, with room for every region, add up to the same"
+  -- "Free's answer plus the resident pages of all spaces is F."
   pub counted : (a : Answer) (k″ : Memory) → Did (λ _. free) k′ a k″
       → (n : ℕ) × (a ≡ frames n) × (n ≡ length (m .pool)) × (n + residentPages m ≡ m .sizes .frames)
+  -- document 01: "the records that list gives for all spaces, with room for every region, add up to the same"
   pub listed : (room : ℕ → ℕ) (a : ℕ → Answer) (k″ : ℕ → Memory)
       → ((i : ℕ) → i < m .sizes .spaces → (length (recordsOf m i) ≤ room i) × Did (list i (room i)) k′ (a i) (k″ i))
       → (given : ℕ → List Region) × ((i : ℕ) → i < m .sizes .spaces → a i ≡ regions (given i))
       × (sumFrom (λ i. sum (λ r. r .resident) (given i)) 0 (m .sizes .spaces) ≡ residentPages m)
-  -- 4. "a stored byte stays until stored again or released": "a read of that one byte is accepted and gives it, .. every accepted read over
-  -- the address has it at that place, and .. the RAM holds it where translate points"
+  -- "A byte stored through an address is read there until it is stored again or its region is released." Document 01: "a read of that one byte is
+  -- accepted and gives it", "every accepted read over the address has it at that place", "the RAM holds it where translate points"
   pub one-read : (i x v : ℕ) → StoredAt begun k es i x v → (a : Answer) (k″ : Memory) → Did (read i x 1) k′ a k″ → a ≡ bytes (v ∷ [])
   pub every-read : (i x v : ℕ) → StoredAt begun k es i x v → (y n : ℕ) (vs : List ℕ) (k″ : Memory) → Did (read i y n) k′ (bytes vs) k″ → y ≤ x → x < y + n
       → getD vs (x - y) 0 ≡ v
   pub in-ram : (i x v : ℕ) → StoredAt begun k es i x v → (a : Answer) (k″ : Memory) → Did (translate i x) k′ a k″
       → (p : ℕ) × (a ≡ at p) × (getD (k′ .ram) p 0 ≡ v)
-  -- 5. "a release then changes at most two table words, no index word and no RAM"
+  -- "A release made then changes at most two words of the lent tables, no index word and no RAM, however large the region."
   pub constant : (i b : ℕ) (a : Answer) (k″ : Memory) → Did (release i b) k′ a k″ → Tables (sizesOf (k′ .head)) 0 1 0 0 0 0 1 k′ k″
 
+-- document 01: "The memory is long enough for the accepted start's sizes"
 abbrev pub Demand3For : Type 0
-Demand3For = (m : State) (k k′ : Memory) (es : List Event) → Sequence m k es k′ → Demand3 m k es k′ (machineAt m k es)
+Demand3For =
+    (m : State) (k k′ : Memory) (es : List Event) → Sequence m k es k′ → Roomy (machineAt m k es .sizes) k′ → Demand3 m k es k′ (machineAt m k es)

@@ -1,13 +1,14 @@
--- A sequence of calls on one memory: each is lent a front part of every buffer that it is lent, "the next call gets all of it again".
+-- A sequence of calls on one memory: each is lent a front part of every buffer that it is lent, or, refused with 1, too short a part from anywhere;
+-- "the next call gets all of it again".
 use mathlib.Core.Path.{_≡_}
 use mathlib.Core.Bool.{Bool, true, false}
 use mathlib.Core.List.{List, [], _∷_, _++_, map}
 use mathlib.Core.Option.{some}
 use Prim.Native.Nat.{ℕ, _≤_}
 use lib.ListN.{take, drop}
-use Rattle.machine.specs.Machine.{State, Lent, Call, Uses, uses, Lending, lendsNone, lends, facts, Answer, done}
-use Rattle.memory.specs.Memory.{Memory, memory, lengths}
-use Rattle.promise.specs.Did.{Room, Did}
+use Rattle.machine.specs.Machine.{State, Lent, Call, Uses, uses, Lending, lendsNone, lends, facts, asked, Answer, done}
+use Rattle.memory.specs.Memory.{Memory, memory, sizesOf, lengths}
+use Rattle.promise.specs.Did.{Did}
 
 -- ---- the part that is lent, and the memory put together again
 
@@ -56,15 +57,26 @@ CarriesBy (lends u l) n = l ≡ n
 abbrev pub Carries : Call → Lent → Type 0
 Carries c n = CarriesBy (facts c .lending) n
 
--- one call: the function's own promise on the part that it was lent
-pub record Step (k : Memory) (e : Event) (k′ : Memory) : Type 0 where
+-- one call lent a front part: the function's own promise on that part
+pub record FrontStep (k : Memory) (e : Event) (k′ : Memory) : Type 0 where
   pub parts : Parts (uses (played e)) (e .lent) (lengths k)
   pub carries : Carries (played e) (e .lent)
-  -- an accepted beginning finds memory that is long enough for its sizes
-  pub room : e .answer ≡ done → Room (played e) k
   pub part : Memory
   pub did : Did (e .call) (front (e .lent) k) (e .answer) part
   pub after-is : k′ ≡ rejoined (e .lent) part k
+
+-- one call "lent too short a part of that memory (refusal 1)", wherever the part lies in it: its promise on memory with the head and those lengths
+pub record ShortStep (k : Memory) (e : Event) : Type 0 where
+  pub part : Memory
+  pub part′ : Memory
+  pub head-is : part .head ≡ k .head
+  pub lengths-are : lengths part ≡ e .lent
+  pub short : asked (sizesOf (k .head)) (played e) ≡ 1
+  pub did : Did (e .call) part (e .answer) part′
+
+pub data Step (k : Memory) (e : Event) : Memory → Type 0 where
+  lent-front : {k′ : Memory} → FrontStep k e k′ → Step k e k′
+  lent-short : ShortStep k e → Step k e k
 
 pub data Run : Memory → List Event → Memory → Type 0 where
   none : {k : Memory} → Run k [] k
@@ -75,7 +87,7 @@ pub record Beginning (m : State) (k : Memory) (k′ : Memory) : Type 0 where
   pub first : Event
   pub begins : facts (played first) .begins ≡ some m
   pub accepted : first .answer ≡ done
-  pub step : Step k first k′
+  pub step : FrontStep k first k′
 
 -- the same calls, with the same lengths
 abbrev pub calls : List Event → List Call

@@ -3,7 +3,6 @@
 use mathlib.Core.Path.{_≡_}
 use mathlib.Core.List.{List, [], _∷_, map}
 use Prim.Native.Nat.{ℕ}
-use lib.ListN.{length}
 use Rattle.machine.specs.Machine.{State, translate, withRam, Answer, at, answer, after, answers, afterAll}
 use Rattle.machine.specs.Claims.{blind, Same}
 use Rattle.memory.specs.Memory.{Memory}
@@ -20,7 +19,7 @@ pub data Turn : Type 0 where
 pub data Course : Memory → List Turn → Memory → Type 0 where
   none : {k : Memory} → Course k [] k
   call : {k k₁ k₂ : Memory} {e : Event} {ts : List Turn} → Step k e k₁ → Course k₁ ts k₂ → Course k (called e ∷ ts) k₂
-  fill : {k k₂ : Memory} {ts : List Turn} (ram : List ℕ) → length ram ≡ length (k .ram) → Course (withBytes k ram) ts k₂ → Course k (filled ram ∷ ts) k₂
+  fill : {k k₂ : Memory} {ts : List Turn} (ram : List ℕ) → Course (withBytes k ram) ts k₂ → Course k (filled ram ∷ ts) k₂
 
 -- an accepted beginning on memory that held anything, then calls and writes from outside in any order
 pub record FilledSequence (m : State) (k : Memory) (ts : List Turn) (k′ : Memory) : Type 0 where

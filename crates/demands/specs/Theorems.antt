@@ -12,7 +12,7 @@ use Rattle.memory.specs.Memory.{Memory, lengths}
 use Rattle.promise.specs.Holds.{Holds}
 use Rattle.promise.specs.Did.{Did}
 use Rattle.laws.specs.Refusals.{refused-still}
-use Rattle.laws.specs.Located.{translate-next, translate-resident}
+use Rattle.laws.specs.Located.{translate-asks, translate-next, translate-resident}
 use Rattle.demands.specs.History.{calls}
 use Rattle.demands.specs.Demands.{Demand1, Demand1Read, Demand1List, machineAt, Demand2, Demand3For}
 use Rattle.demands.specs.Laws.Run.{begins-holding, sequence-follows}
@@ -42,25 +42,25 @@ addresses-apart m k H i x j y p a b d e =
     same-byte m (H .sound) i x j y p (r .here) (t .here) (r .is-at) (t .is-at)
 
 pub demand-3 : Demand3For
-demand-3 m₀ k k′ es q =
+demand-3 m₀ k k′ es q room =
     let m = machineAt m₀ k es in
     let H = sequence-follows m₀ k k′ es q .holds in
     let s = H .sound in
     record {
-      translated = translate-next m k′ H;
+      translated = λ i x p here. translate-next m k′ H i x p (translate-asks m k′ H room i x here);
       apart = addresses-apart m k′ H;
       held = one-holder m s;
-      counted = λ a k″ d. (length (m .pool), free-next m k′ H a k″ d, refl, pool-and-resident m s);
-      listed = λ room a k″ d. (recordsOf m, λ i h. list-next m k′ H i (room i) h (d i h .0) (a i) (k″ i) (d i h .1), listed-pages m s);
+      counted = λ a k″ d. (length (m .pool), free-next m k′ H room a k″ d, refl, pool-and-resident m s);
+      listed = λ most a k″ d. (recordsOf m, λ i h. list-next m k′ H room i (most i) h (d i h .0) (a i) (k″ i) (d i h .1), listed-pages m s);
       one-read = λ i x v b a k″ d.
           let t = stored-there m₀ k k′ es q i x v b in
-          d .honest m H tt .answer-is ∙ read-there m i x v (t .stored) .one (lengths k′) (read-asks m k′ H i x (t .here));
+          d .honest m H .answer-is ∙ read-there m i x v (t .stored) .one (lengths k′) (read-asks m k′ H room i x (t .here));
       every-read = λ i x v b y n vs k″ d low high.
-          read-there m i x v (stored-there m₀ k k′ es q i x v b .stored) .over y n (lengths k′) vs (sym (d .honest m H tt .answer-is)) low high;
+          read-there m i x v (stored-there m₀ k k′ es q i x v b .stored) .over y n (lengths k′) vs (sym (d .honest m H .answer-is)) low high;
       in-ram = λ i x v b a k″ d.
           let t = stored-there m₀ k k′ es q i x v b in
           let b′ = t .stored in
-          (b′ .place, translate-next m k′ H i x (b′ .place) (t .here) (b′ .is-at) a k″ d, ap (λ (ram : List ℕ). getD ram (b′ .place) 0) (H .ram-is) ∙ b′ .is);
+          (b′ .place, translate-next m k′ H i x (b′ .place) (translate-asks m k′ H room i x (t .here)) (b′ .is-at) a k″ d, ap (λ (ram : List ℕ). getD ram (b′ .place) 0) (H .ram-is) ∙ b′ .is);
       constant = λ i b a k″ d. d .bounds;
     }
 

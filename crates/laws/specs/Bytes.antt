@@ -2,7 +2,6 @@
 use mathlib.Core.Path.{_≡_, refl}
 use mathlib.Core.List.{List}
 use Prim.Native.Nat.{ℕ}
-use lib.ListN.{length}
 use Rattle.machine.specs.Machine.{State, withRam}
 use Rattle.machine.specs.Laws.Kept.{sound-stored}
 use Rattle.memory.specs.Memory.{Memory, memory}
@@ -11,23 +10,13 @@ use Rattle.promise.specs.Holds.{Holds}
 abbrev pub withBytes : Memory → List ℕ → Memory
 withBytes k ram = memory (k .head) (k .index) (k .count) (k .table) (k .helper) (k .stack) (k .cache) (k .link) ram
 
-pub bytes-hold : (m : State) (k : Memory) (ram : List ℕ) → Holds m k → length ram ≡ length (k .ram) → Holds (withRam m ram) (withBytes k ram)
-bytes-hold m k ram h e =
-    let r = h .roomy in
+pub bytes-hold : (m : State) (k : Memory) (ram : List ℕ) → Holds m k → Holds (withRam m ram) (withBytes k ram)
+bytes-hold m k ram h =
     record {
       sound = sound-stored m (h .sound) ram;
       sizes-are = h .sizes-are;
-      roomy =
-          record {
-            index = r .index;
-            count = r .count;
-            table = r .table;
-            helper = r .helper;
-            stack = r .stack;
-            cache = r .cache;
-            link = r .link;
-            ram = rw e (r .ram);
-          };
+      index-long = h .index-long;
+      count-long = h .count-long;
       index-is = h .index-is;
       counts = h .counts;
       entries = λ a j l. let p = h .entries a j l in record

@@ -12,7 +12,7 @@ use Rattle.machine.specs.Claims.{Address}
 use Rattle.machine.specs.Laws.Sizes.{passed}
 use Rattle.machine.specs.Laws.Holders.{backed}
 use Rattle.memory.specs.Memory.{Memory, lengths}
-use Rattle.promise.specs.Holds.{Holds}
+use Rattle.promise.specs.Holds.{Roomy, Holds}
 use Rattle.promise.specs.Did.{Did}
 use Rattle.laws.specs.Refusals.{passed-step, refused-step}
 use Rattle.laws.specs.Passing.{long-enough, roomy-long}
@@ -27,24 +27,25 @@ place-in z x p (unmapped a) e = absurd (let w : _≡_ {A = ℕ} 0 1 = cc in omeg
 place-in z x p (mapped a f) e = ap some cc
 
 module _ (m : State) (k : Memory) (H : Holds m k) where
-  -- all of the memory is enough for any call
-  pub first-passes : (u : Uses) → sizesOk (m .sizes) && enough u (m .sizes) (lengths k) ≡ true
-  first-passes u = rw (H .sound .sizes-ok, long-enough u (m .sizes) (lengths k) (roomy-long u (m .sizes) k (H .roomy)))
+  -- all of a memory that is long enough is enough for any call
+  pub first-passes : Roomy (m .sizes) k → (u : Uses) → sizesOk (m .sizes) && enough u (m .sizes) (lengths k) ≡ true
+  first-passes r u = rw (H .sound .sizes-ok, long-enough u (m .sizes) (lengths k) (roomy-long u (m .sizes) k r))
 
   -- what a call that passes answers
   pub answers : (c : Call) → asked (m .sizes) c ≡ 0 → answer m c ≡ accepted m c .answer
   answers c e = ap (λ (o : Out). o .answer) (passed-step m c e)
 
-  translate-asks : (i x : ℕ) → Address (m .sizes) i x → asked (m .sizes) (translate i x (lengths k)) ≡ 0
+  pub translate-asks : Roomy (m .sizes) k → (i x : ℕ) → Address (m .sizes) i x → asked (m .sizes) (translate i x (lengths k)) ≡ 0
   unfolding asked
-  translate-asks i x a = rw (first-passes _, lt-ltb i _ (a .space), lt-ltb x _ (a .inside))
+  translate-asks r i x a = rw (first-passes r _, lt-ltb i _ (a .space), lt-ltb x _ (a .inside))
 
-  pub translate-next : (i x p : ℕ) → Address (m .sizes) i x → ramAt m i x ≡ some p → (a : Answer) (k″ : Memory) → Did (translate i x) k a k″ → a ≡ at p
+  pub translate-next : (i x p : ℕ) → asked (m .sizes) (translate i x (lengths k)) ≡ 0 → ramAt m i x ≡ some p → (a : Answer) (k″ : Memory)
+      → Did (translate i x) k a k″ → a ≡ at p
   unfolding accepted
-  translate-next i x p here e a k″ d =
+  translate-next i x p passes e a k″ d =
       let b = backed m i x p e in
-      d .honest m H tt .answer-is
-      ∙ answers (translate i x (lengths k)) (translate-asks i x here)
+      d .honest m H .answer-is
+      ∙ answers (translate i x (lengths k)) passes
       ∙ ap (translatePage (m .sizes) x) (b .is-mapped)
       ∙ ap at (sym (b .place-is))
 
@@ -61,10 +62,10 @@ module _ (m : State) (k : Memory) (H : Holds m k) where
           let q = passed (sizesOk (m .sizes) && enough (uses c) (m .sizes) (lengths k)) (ltb i (m .sizes .spaces)) (ltb x (spaceBytes (m .sizes))) e in
           record {
             here = record { space = ltb-true i _ (q .second); inside = ltb-true x _ (q .third) };
-            is-at = place-in (m .sizes) x p (pageOf m (pageOfAddress (m .sizes) i x)) (sym (answers c e) ∙ sym (d .honest m H tt .answer-is));
+            is-at = place-in (m .sizes) x p (pageOf m (pageOfAddress (m .sizes) i x)) (sym (answers c e) ∙ sym (d .honest m H .answer-is));
           }
       go (suc j) e =
           absurd
-          (let f : at p ≡ refused (suc j) = d .honest m H tt .answer-is ∙ ap (λ (o : Out). o .answer) (refused-step m c j e) in
+          (let f : at p ≡ refused (suc j) = d .honest m H .answer-is ∙ ap (λ (o : Out). o .answer) (refused-step m c j e) in
           let w : _≡_ {A = ℕ} 0 1 = cc in
           omega arith)

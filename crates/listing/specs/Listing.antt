@@ -115,7 +115,8 @@ module _ (i room : ℕ) (k : Memory) (rs : List Region) where
   list-refused (suc n) e d = early-did (list i room) k n (sym (e ∙ list-check k i room))
 
   module _ (n : ℕ) (checked : n ≡ checkOf (k .head) (markLengths k) i true) (passes : n ≡ 0) where
-    listed : (a : Answer) → Later (list i room (lengths k)) a → ((m : State) → Holds m k → a ≡ listIf (recordsOf m i) (leb (length (recordsOf m i)) room))
+    listed : (a : Answer) → Later (sizesOf (k .head)) (list i room (lengths k)) a
+        → ((m : State) → Holds m k → a ≡ listIf (recordsOf m i) (leb (length (recordsOf m i)) room))
         → Did (list i room) k a k
     unfolding accepted
     listed a later says =
@@ -128,7 +129,7 @@ module _ (i room : ℕ) (k : Memory) (rs : List Region) where
 
     module _ (many : ℕ) (counted : (m : State) → Holds m k → many ≡ length (recordsOf m i)) where
       pub list-short : room < many → Did (list i room) k (listedSays (Refused 11) rs) k
-      list-short h = listed _ (inr (inl refl)) (λ m o. rw (← counted m o, lt-leb many room h))
+      list-short h = listed _ (inr (inl refl), refl) (λ m o. rw (← counted m o, lt-leb many room h))
 
       pub list-filled : many ≤ room → ((m : State) → Holds m k → rs ≡ recordsOf m i) → Did (list i room) k (listedSays (Regions many) rs) k
-      list-filled h filled = listed _ tt (λ m o. rw (← counted m o, le-leb many room h, filled m o))
+      list-filled h filled = listed _ refl (λ m o. rw (← counted m o, le-leb many room h, filled m o))

@@ -21,7 +21,8 @@ use Rattle.memory.specs.Memory.{Memory, at}
 use Rattle.lookup.specs.declared.Sight.{Sight}
 use Rattle.lookup.specs.declared.Sight.the-variants as sight-is
 use Rattle.promise.specs.Holds.{Holds, Placed}
-use Rattle.lookup.specs.Models.{residentOk, sightIn, sightFound, SeenIf, Seen, SeenAt}
+use Rattle.promise.specs.Shown.{residentOk}
+use Rattle.lookup.specs.Models.{sightIn, sightFound, SeenIf, Seen, SeenAt}
 use Rattle.laws.specs.Finds.{sought-is, start-is}
 use Rattle.laws.specs.Room.{owned-below}
 

@@ -11,18 +11,12 @@ use Rattle.index.specs.declared.Found.the-variants as found-is
 use Rattle.index.specs.Promise.{Sought}
 use Rattle.machine.specs.Machine.{places, placeOf, Answer, resident, absent, refusedAfter, looked, refusalOf}
 use Rattle.memory.specs.Memory.{Memory, at, sizesOf}
+use Rattle.promise.specs.Shown.{residentOk}
 use Rattle.lookup.specs.declared.Sight as sight
 use Rattle.lookup.specs.declared.Sight.the-variants as sight-is
 use Rattle.laws.specs.Models.{checkOf, Checked, pageInside, lookLengths}
 
 -- ---- the page at a place
-
--- cached start, helper and stack say that the page at place p is resident, below its region's count
-unfoldable pub residentOk : List ℕ → List ℕ → List ℕ → List ℕ → ℕ → ℕ → Bool
-residentOk count helper stack cache t p =
-    let a = at cache p in
-    let j = at helper p in
-    leb a p && ltb j (at count a) && ltb (a + j) t && eqb (at stack (a + j)) p
 
 abbrev pub sightMapped : ℕ → Bool → sight.Sight
 sightMapped f true = sight-is.Mapped f

@@ -5,7 +5,7 @@ use mathlib.Core.List.{List, []}
 use Prim.Native.Nat.{ℕ, _*_, _≤_, _<_}
 use native.Mathlib.Omega.{arith}
 use borrow.Author.Tests.{lt-leb, le-leb, ltb-true, lt-ltb}
-use lib.Dec.{leb, ltb}
+use lib.Dec.{ltb}
 use lib.ListN.{length}
 use Rattle.places.specs.Places.{size}
 use Rattle.index.specs.Answers.{check, placesOk}
@@ -13,15 +13,13 @@ use Rattle.index.specs.declared.Found as found
 use Rattle.index.specs.declared.Found.the-variants as found-is
 use Rattle.machine.specs.declared.PageCall.the-variants.{Look}
 use Rattle.machine.specs.Machine.{everyBuffer, Sizes, places, placeOf, sizesOk, Uses, look, asked, Answer, refusedAfter}
-use Rattle.machine.specs.Answers.{lookedSays}
-use Rattle.machine.specs.declared.Looked.{Looked}
-use Rattle.machine.specs.declared.Looked.the-variants as looked-is
 use Rattle.machine.specs.Laws.Sizes.{fit, some-places, place-below}
 use Rattle.memory.specs.Memory.{Memory, memory, at, sizesOf, lengths}
 use Rattle.memory.specs.declared.Head.{Head}
 use Rattle.lookup.specs.declared.Sight.{Sight}
 use Rattle.lookup.specs.declared.Sight.the-variants.{Mapped, Unmapped, Outside, Broken}
-use Rattle.lookup.specs.Models.{residentOk, sightMapped, sightIn, sightFound, Searched, SeenIf, Seen, lookSays}
+use Rattle.promise.specs.Shown.{residentOk, frameOf}
+use Rattle.lookup.specs.Models.{sightMapped, sightFound, Searched, Seen, lookSays}
 use Rattle.laws.specs.Models.{lookLengths, checkOf}
 use Rattle.promise.specs.Did.{Words, Tables, Did}
 use Rattle.laws.specs.Refusals.{Long}
@@ -30,7 +28,7 @@ use Rattle.laws.specs.Checks.{page-check}
 use Rattle.laws.specs.Checking.{checked-no, checked-yes}
 use Rattle.laws.specs.Checking as checking
 use Rattle.lookup.specs.Looking.{look-did}
-use Rattle.lookup.specs.Ready.{Tabled, Ready, Lookable, SeenOf, frameOf, Framed}
+use Rattle.lookup.specs.Ready.{Tabled, Ready, Lookable, SeenOf}
 
 -- a buffer that a call isn't lent
 pub not-lent : {A : Type 0} → false ≡ true → A
@@ -201,36 +199,6 @@ module _ (h : Head) (i b : ℕ) (index count table helper stack cache : List ℕ
 
     pub look-asked : asked (sizesOf h) (look i b (lengths (memory h index count table helper stack cache link ram))) ≡ 0
     look-asked = page-passes (sizesOf h) Look i b _ (y .sizes-ok) (y .space) (y .page) (ready-long _ not-lent not-lent)
-
-  -- a page is seen with a frame below F, or with none
-  seen-below : (f : ℕ) → SeenOf h i b index count table helper stack cache (Mapped f) → f < h .frames
-  unfolding Seen
-  seen-below f seen = go (residentOk count helper stack cache (places (sizesOf h)) (placeOf (sizesOf h) i b)) seen
-    where
-      not-found : (lo : ℕ) (r : found.Found) → Mapped f ≡ sightFound lo r → ⊥
-      not-found lo (found-is.Start a c) e = not-in (leb lo a) e
-        where
-          not-in : (x : Bool) → Mapped f ≡ sightIn x a c → ⊥
-          not-in true e = let z : _≡_ {A = ℕ} 0 1 = cc in omega arith
-          not-in false e = let z : _≡_ {A = ℕ} 0 1 = cc in omega arith
-      not-found lo (found-is.Missing c) e = let z : _≡_ {A = ℕ} 0 1 = cc in omega arith
-      not-found lo (found-is.Refused k c) e = let z : _≡_ {A = ℕ} 0 1 = cc in omega arith
-
-      in-table : (g : ℕ) (x : Bool) → ltb g (h .frames) ≡ x → Mapped f ≡ sightMapped g x → f < h .frames
-      in-table g true l e = let same : f ≡ g = cc in omega (arith, ltb-true g (h .frames) l)
-      in-table g false l e = absurd (let z : _≡_ {A = ℕ} 0 1 = cc in omega arith)
-
-      go : (x : Bool) → SeenIf x (h .frames) (places (sizesOf h)) (placeOf (sizesOf h) i 0) (placeOf (sizesOf h) i b) index table (Mapped f) → f < h .frames
-      go true e = in-table _ _ refl e
-      go false s = absurd (not-found _ (s .found) (s .seen))
-
-  pub look-framed : (s : Sight) (r : Looked) → SeenOf h i b index count table helper stack cache s → lookedSays r ≡ lookSays s → Framed h r
-  look-framed (Mapped f) (looked-is.Resident g) seen e = let same : g ≡ f = cc in omega (arith, seen-below f seen)
-  look-framed (Unmapped a c) (looked-is.Resident g) seen e = absurd (let z : _≡_ {A = ℕ} 0 1 = cc in omega arith)
-  look-framed (Outside c) (looked-is.Resident g) seen e = absurd (let z : _≡_ {A = ℕ} 0 1 = cc in omega arith)
-  look-framed Broken (looked-is.Resident g) seen e = absurd (let z : _≡_ {A = ℕ} 0 1 = cc in omega arith)
-  look-framed s (looked-is.Absent w) seen e = tt
-  look-framed s (looked-is.Refused n w) seen e = tt
 
   pub look-found : Ready h i b index count table helper stack cache → (s : Sight) (a : Answer) → SeenOf h i b index count table helper stack cache s
       → a ≡ lookSays s → DidLook a

@@ -8,7 +8,7 @@ use Rattle.machine.specs.Machine.{touch, Answer}
 use Rattle.memory.specs.Memory.{Memory, sizesOf}
 use Rattle.promise.specs.Did.{Did, Tables}
 use Rattle.laws.specs.Spans.{AllTouched, none-touched, one-touched}
-use Rattle.mapping.specs.Touches.{all-tables}
+use Rattle.mapping.specs.Touches.{all-maps, all-tables}
 
 -- the pages from `first` to before `page`, whatever the RAM, which no touch is lent
 pub record SoFar (i first end page : ℕ) (k k′ : List ℕ → Memory) : Type 0 where
@@ -35,5 +35,5 @@ module _ {i first end page : ℕ} {k k₁ : List ℕ → Memory} (s : SoFar i fi
   touched-all l ram = let same : end ≡ page = omega (arith, s .high) in rw same (s .touched ram)
 
   -- no touch changes a length
-  pub touched-tables : let n = page - first in Tables (sizesOf (k [] .head)) 0 n n n n n n (k []) (k₁ [])
+  pub touched-tables : let n = all-maps (s .touched []) .0 .mapped in Tables (sizesOf (k [] .head)) 0 n n n n n n (k []) (k₁ [])
   touched-tables = all-tables (s .touched [])

@@ -10,7 +10,7 @@ use native.Mathlib.Decide.{ℕ-discrete}
 use native.Mathlib.Omega.{arith}
 use borrow.Author.Tests.{lt-ltb}
 use lib.Dec.{leb, ltb}
-use lib.ListN.{length, drop as dropped, replicate, length-append, length-replicate, List·getD-append}
+use lib.ListN.{length, drop as dropped, replicate, length-append, length-drop, length-replicate, List·getD-append}
 use lib.Seq.{getD-set-same, getD-set-other}
 use Rattle.sequence.specs.Lists.{tabulate, getD-same}
 use Rattle.places.specs.Places.{put, lastBelow, size}
@@ -27,7 +27,7 @@ use Rattle.index.specs.Promise.{Put, Sought}
 use Rattle.index.specs.Laws.{length-index, index-front, index-bit, index-ext}
 use Rattle.machine.specs.Machine.{Sizes, sizes, places, placeOf, isPageSize, sizesOk, firstOf, State, Pair, isStart, region, startOf, notBelow, wordsAt, Lent}
 use Rattle.machine.specs.Machine.{Uses, uses, Call, start, mark, drop, facts, asked, Answer, done, refused, tell, begun, withStart, unlessResident, markCut}
-use Rattle.machine.specs.Machine.{markAt, dropAt, accepted, step, answer, after}
+use Rattle.machine.specs.Machine.{markAt, dropAt, accepted, step, answer, after, ended}
 use Rattle.machine.specs.declared.PageCall.the-variants.{Mark, Drop}
 use Rattle.machine.specs.Answers.{size as size-is, no-size, pageSizeFor}
 use Rattle.machine.specs.Claims.{Sound}
@@ -35,7 +35,7 @@ use Rattle.machine.specs.Laws.Sizes.{fit}
 use Rattle.machine.specs.Laws.Regions.{own-marked, own-dropped}
 use Rattle.machine.specs.Laws.Kept.{sound-begun, sound-marked, sound-dropped}
 use Rattle.memory.specs.Memory.{Memory, memory, at, sizesOf, lengths}
-use Rattle.promise.specs.Holds.{Roomy, Holds}
+use Rattle.promise.specs.Holds.{Holds}
 use Rattle.promise.specs.Did.{Later, Marks, Bounds, Did}
 use Rattle.laws.specs.Models.{checkOf, Refuses, markLengths}
 use Rattle.marking.specs.Models.{cutCount, countIn, withIndex, changeSays, Puts, PutsUnless, MarkIf, DropIf, AsksStart, MarkDone, DropDone, startHead}
@@ -84,20 +84,11 @@ module _ (m : State) (k : Memory) (h : Holds m k) (p : ℕ) (low : p < places (m
   pub put-holds : (v : Bool) (change : Change) (words : List ℕ) → Put v (places (m .sizes)) p (k .index) change words → Spares m v p
       → Holds (withStart m p v) (withIndex k words)
   put-holds v change words w s =
-      let r = h .roomy in
       record {
         sound = s .sound;
         sizes-are = h .sizes-are;
-        roomy = record {
-          index = omega (arith, w .few .size, r .index);
-          count = r .count;
-          table = r .table;
-          helper = r .helper;
-          stack = r .stack;
-          cache = r .cache;
-          link = r .link;
-          ram = r .ram;
-        };
+        index-long = omega (arith, w .few .size, h .index-long);
+        count-long = h .count-long;
         index-is =
             index-front (places (m .sizes)) (isStart (withStart m p v)) words _
             (w .changed (isStart m) (h .index-is) (index-passes m k h p low)
@@ -229,23 +220,24 @@ module _ (i b : ℕ) (k : Memory) where
         (sym (index-bit (places (m .sizes)) (isStart m) (k .index) (h .index-is) (placeOf (m .sizes) i b) (low m h))))
         (rw e at (d .done-then))
 
-    refuses-did : MayKeep (c (lengths k)) → (n : ℕ) (a : Answer) (k′ : Memory) → Later (c (lengths k)) (refused n) → Refuses (refused n) k a k′
+    refuses-did : MayKeep (c (lengths k)) → (n : ℕ) (a : Answer) (k′ : Memory) → Later z (c (lengths k)) (refused n) → Refuses (refused n) k a k′
         → ((m : State) → Holds m k → step m (c (lengths k)) ≡ tell m (refused n)) → Did c k a k′
     refuses-did keeps n a k′ l d same =
         rw (d .answer-is, d .same)
         (kept-did c k (refused n) pass l keeps
         (λ m h. (sym (ap (λ o. o .answer) (same m h)), ap (λ o. o .after) (same m h))))
 
-    module _ (v : Bool) (bounds : (k′ : Memory) → Marks k k′ → Bounds (c (lengths k)) k k′) (keeps : MayKeep (c (lengths k))) where
+    module _ (v : Bool) (bounds : (k′ : Memory) → Marks k k′ → Bounds (c (lengths k)) k k′) (keeps : MayKeep (c (lengths k)))
+        (kind : facts (c (lengths k)) .kind ≡ ended) where
       put-did : (a : Answer) (k′ : Memory) → Puts v here k a k′ → ((m : State) → Holds m k → Cut m (c (lengths k)) v (placeOf (m .sizes) i b) 0) → Did c k a k′
       put-did a k′ d cut =
           let done-is : a ≡ done = d .answer-is ∙ ap changeSays (d .put .answer ∙ ap (λ n. index.unless change-is.Refused n change-is.Done) checked) in
           rw (done-is, d .after-is)
           (record {
-            asks = rw pass tt;
+            asks = rw pass kind;
             stays = λ e. absurd (false≢true e);
             bounds = bounds (withIndex k (d .words)) (put-marks k v here (d .change) (d .words) (d .put));
-            honest = λ m h _.
+            honest = λ m h.
                 let (o, spares) = cut-clear m (c (lengths k)) v (placeOf (m .sizes) i b) (cut m h) in
                 let put-is = as-machine m h (λ z. Put v (places z) (placeOf z i b) (k .index) (d .change) (d .words)) (d .put) in
                 record {
@@ -255,7 +247,7 @@ module _ (i b : ℕ) (k : Memory) where
             begins = begins-none (facts (c (lengths k)) .begins) _ k done _ (λ _. keeps .1);
           })
 
-      cut-did : Later (c (lengths k)) (refused 7) → (n : ℕ) (a : Answer) (k′ : Memory) → PutsUnless n v here k a k′
+      cut-did : Later z (c (lengths k)) (refused 7) → (n : ℕ) (a : Answer) (k′ : Memory) → PutsUnless n v here k a k′
           → ((m : State) → Holds m k → Cut m (c (lengths k)) v (placeOf (m .sizes) i b) n) → Did c k a k′
       cut-did full zero a k′ d cut = put-did a k′ d cut
       cut-did full (suc j) a k′ d cut = refuses-did keeps 7 a k′ full d (λ m h. cut-full m (c (lengths k)) v _ j (cut m h))
@@ -274,9 +266,9 @@ module _ (i b : ℕ) (k : Memory) where
           marks s is m h = passed-as (mark i b) pass _ w refl m h ∙ ap (markAt m _ _) (is m h)
 
           then : (s : Bool) → Says s → MarkIf (index.memberIf s) here (placeOf z i 0) k a k′ → Did (mark i b) k a k′
-          then true is d = refuses-did (mark i b) pass _ w refl (tt, tt) 6 a k′ (inl refl) d (marks true is)
+          then true is d = refuses-did (mark i b) pass _ w refl (tt, tt) 6 a k′ (inl refl, refl) d (marks true is)
           then false is d =
-              cut-did (mark i b) pass _ w refl true (λ k′ x. x) (tt, tt) (inr (inl refl)) _ a k′ (d .done-then)
+              cut-did (mark i b) pass _ w refl true (λ k′ x. x) (tt, tt) refl (inr (inl refl), refl) _ a k′ (d .done-then)
               (λ m h.
               let p = placeOf (m .sizes) i b in
               record {
@@ -303,9 +295,9 @@ module _ (i b : ℕ) (k : Memory) where
           drops s is m h = passed-as (drop i b) pass _ w refl m h ∙ ap (dropAt m _) (is m h)
 
           then : (s : Bool) → Says s → DropIf (index.memberIf s) here k a k′ → Did (drop i b) k a k′
-          then false is d = refuses-did (drop i b) pass _ w refl (tt, tt) 5 a k′ (inl refl) d (drops false is)
+          then false is d = refuses-did (drop i b) pass _ w refl (tt, tt) 5 a k′ (inl refl, refl) d (drops false is)
           then true is d =
-              cut-did (drop i b) pass _ w refl false (λ k′ x. x) (tt, tt) (inr (inl refl)) _ a k′ d
+              cut-did (drop i b) pass _ w refl false (λ k′ x. x) (tt, tt) refl (inr (inl refl), refl) _ a k′ d
               (λ m h.
               let p = placeOf (m .sizes) i b in
               let inside = low (drop i b) pass _ w refl m h in
@@ -337,6 +329,10 @@ start-check k s n f shift =
 front-long : (n : ℕ) (front rest : List ℕ) → length front ≡ n → n ≤ length (front ++ rest)
 front-long n front rest e = omega (arith, length-append front rest)
 
+-- in place of as many words at the front
+front-same : (n : ℕ) (front ws : List ℕ) → length front ≡ n → n ≤ length ws → length (front ++ dropped n ws) ≡ length ws
+front-same n front ws e l = omega (arith, length-append front (dropped n ws), length-drop n ws)
+
 module _ (s n f shift : ℕ) (k : Memory) where
   abbrev given : Sizes
   given = sizesOf (startHead s n f shift)
@@ -351,22 +347,14 @@ module _ (s n f shift : ℕ) (k : Memory) where
   none-held : (a : ℕ) → region (begun given (k .ram)) a ≡ []
   none-held a = getD-same (places given) a []
 
-  begun-holds : sizesOk given ≡ true → Roomy given k → Holds (begun given (k .ram)) prepared
-  begun-holds ok r =
+  begun-holds : sizesOk given ≡ true → Holds (begun given (k .ram)) prepared
+  begun-holds ok =
       let t = places given in
       record {
         sound = sound-begun given (k .ram) ok;
         sizes-are = refl;
-        roomy = record {
-          index = front-long (size t) (indexOf t (λ _. false)) _ (length-index t _);
-          count = front-long t (replicate t 0) _ (length-replicate t 0);
-          table = r .table;
-          helper = r .helper;
-          stack = r .stack;
-          cache = r .cache;
-          link = r .link;
-          ram = r .ram;
-        };
+        index-long = front-long (size t) (indexOf t (λ _. false)) _ (length-index t _);
+        count-long = front-long t (replicate t 0) _ (length-replicate t 0);
         index-is =
             index-front t (isStart (begun given (k .ram))) _ _
             (ap (λ xs. xs ++ dropped (size t) (k .index)) (index-ext t _ _ (λ q _. sym (getD-same t q false))));
@@ -399,9 +387,11 @@ module _ (s n f shift : ℕ) (k : Memory) where
       (d .prepared .cleared checked) in
       rw (done-is, after-is)
       (record {
-        asks = rw pass tt;
+        asks = rw pass refl;
         stays = λ e. absurd (false≢true e);
         bounds = record {
+          index-length = front-same (size t) (indexOf t (λ _. false)) (k .index) (length-index t _) (w .lent .index refl);
+          count-length = front-same t (replicate t 0) (k .count) (length-replicate t 0) (w .lent .count refl);
           table = refl;
           helper = refl;
           stack = refl;
@@ -410,13 +400,13 @@ module _ (s n f shift : ℕ) (k : Memory) where
           ram = refl;
           accepted = λ _. record { sizes = refl; first = refl; many = refl; fresh = refl; index = refl; count = refl };
         };
-        honest = λ m h room.
+        honest = λ m h.
             let o = passed-step m (start given (lengths k)) (subst (λ z. asked z (start given (lengths k)) ≡ 0) (h .sizes-are) pass) in
             record {
               answer-is = sym (ap (λ r. r .answer) o);
               holds =
                   subst (λ r. Holds (r .after) prepared) (sym o)
-                  (subst (λ ram. Holds (begun given ram) prepared) (h .ram-is) (begun-holds (w .sizes-ok) room));
+                  (subst (λ ram. Holds (begun given ram) prepared) (h .ram-is) (begun-holds (w .sizes-ok)));
             };
         begins = λ _. (refl, begun-holds (w .sizes-ok));
       })

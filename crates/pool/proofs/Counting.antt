@@ -2,12 +2,12 @@
 use mathlib.Core.Path.{_≡_, refl}
 use mathlib.Core.Bool.{true, false}
 use mathlib.Core.List.{List}
-use Prim.Native.Nat.{ℕ, _+_, _-_, _≤_, _<_}
+use Prim.Native.Nat.{ℕ, _≤_, _<_}
 use borrow.Author.Tests.{lt-leb, le-leb}
 use Rattle.machine.specs.Machine.{Answer, refused, frames, free, sizesOk}
 use Rattle.memory.specs.Memory.{memory, sizesOf}
 use Rattle.memory.specs.declared.Head.{Head}
-use Rattle.promise.specs.Did.{Did}
+use Rattle.promise.specs.Did.{framesLeft, Did}
 use Rattle.pool.specs.Models.{countSays}
 use Rattle.pool.specs.Freeing.{free-did}
 
@@ -25,14 +25,14 @@ module _ (h : Head) where
     says : (a : Answer) → a ≡ countSays h → DidFree a
     says a e index count table helper stack cache link ram = free-did _ _ _ (rw ok (e, refl))
 
-    pub too-many : h .frames < h .many → DidFree (refused 9)
+    pub too-many : h .fresh < h .many → DidFree (refused 9)
     unfolding countSays
-    too-many l = says _ (rw (lt-leb (h .many) (h .frames) l))
+    too-many l = says _ (rw (lt-leb (h .many) (h .fresh) l))
 
-    pub too-fresh : h .many ≤ h .frames → h .frames < h .fresh → DidFree (refused 9)
+    pub too-fresh : h .many ≤ h .fresh → h .frames < h .fresh → DidFree (refused 9)
     unfolding countSays
-    too-fresh m l = says _ (rw (le-leb (h .many) (h .frames) m, lt-leb (h .fresh) (h .frames) l))
+    too-fresh m l = says _ (rw (le-leb (h .many) (h .fresh) m, lt-leb (h .fresh) (h .frames) l))
 
-    pub counted : h .many ≤ h .frames → h .fresh ≤ h .frames → DidFree (frames (h .many + (h .frames - h .fresh)))
+    pub counted : h .many ≤ h .fresh → h .fresh ≤ h .frames → DidFree (frames (framesLeft h))
     unfolding countSays
-    counted m l = says _ (rw (le-leb (h .many) (h .frames) m, le-leb (h .fresh) (h .frames) l))
+    counted m l = says _ (rw (le-leb (h .many) (h .fresh) m, le-leb (h .fresh) (h .frames) l))

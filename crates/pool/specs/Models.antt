@@ -7,6 +7,7 @@ use lib.Dec.{eqb, leb, ltb}
 use Rattle.machine.specs.Machine.{sizesOk, firstOf, Answer, frames, refused}
 use Rattle.memory.specs.Memory.{Memory, at, sizesOf}
 use Rattle.memory.specs.declared.Head.{Head}
+use Rattle.promise.specs.Did.{framesLeft}
 use Rattle.pool.specs.declared.Taken.{Taken}
 use Rattle.laws.specs.Models.{Checked}
 
@@ -53,11 +54,11 @@ withChain h newest n =
 -- ---- free
 
 abbrev pub freeIf : Head → Bool → Answer
-freeIf h true = frames (h .many + (h .frames - h .fresh))
+freeIf h true = frames (framesLeft h)
 freeIf h false = refused 9
 
 unfoldable pub countSays : Head → Answer
-countSays h = freeIf h (leb (h .many) (h .frames) && leb (h .fresh) (h .frames))
+countSays h = freeIf h (leb (h .many) (h .fresh) && leb (h .fresh) (h .frames))
 
 abbrev pub FreeDone : Memory → Answer → Memory → Type 0
 FreeDone k a k′ = Checked refused (firstOf (sizesOk (sizesOf (k .head))) true true) (λ a k′. (a ≡ countSays (k .head)) × (k′ ≡ k)) k a k′

@@ -18,6 +18,7 @@ use Rattle.machine.specs.Laws.Holders.{one-holder, pool-and-resident}
 use Rattle.memory.specs.Memory.{Memory, at}
 use Rattle.memory.specs.declared.Head.{Head}
 use Rattle.promise.specs.Holds.{Chain, Linked, Pooled, unused, Holds}
+use Rattle.promise.specs.Did.{framesLeft}
 use Rattle.pool.specs.Models.{emptyPool, takenFrom, taken, newestOf}
 use Rattle.pool.specs.Chains.{times, linked-kept, chain-kept, chain-from}
 
@@ -192,6 +193,11 @@ module _ (m : State) (k : Memory) (H : Holds m k) where
         pool-length (k .head) (k .link) (m .pool) (H .pooled),
       )
 
+  -- the pool has at most all frames
+  pub given-all : framesLeft (k .head) ≤ k .head .frames
+  given-all =
+      omega (arith, ap (λ z. z .frames) (H .sizes-are), pool-and-resident m (H .sound), pool-length (k .head) (k .link) (m .pool) (H .pooled))
+
   -- what the code takes for a region's newest frame is that
   pub newest-honest : (a : ℕ) → a < places (m .sizes) → Newest m a (newestOf (k .table) (k .stack) a (at (k .count) a))
   newest-honest a l n e =
@@ -215,9 +221,9 @@ module _ (m : State) (k : Memory) (H : Holds m k) where
     pub pooled-taken : (v : ℕ) → Pooled (taken (k .link) (k .head) .head) (set (k .link) f v) rest
     pooled-taken v = pool-taken (k .head) (k .link) (m .pool) (H .pooled) f rest is .1 v (not-again m (H .sound) f rest is)
 
-    pub linked-paired : (a p newest : ℕ) → a < places (m .sizes) → Newest m a newest → (b : ℕ)
+    pub linked-paired : m .sizes .frames ≤ length (k .link) → (a p newest : ℕ) → a < places (m .sizes) → Newest m a newest → (b : ℕ)
         → Linked (set (k .link) f newest) (newestFirst (withPair m a p f rest) b)
-    linked-paired a p newest l e b = elim (ℕ-discrete b a) [
+    linked-paired long a p newest l e b = elim (ℕ-discrete b a) [
       | yes q ↦
           let c = chain-newest a newest e in
           rw (q, getD-set-same (m .held) a (region m a ++ (record { place = p; frame = f } ∷ [])) [] (omega (arith, H .sound .held-are)), frames-snoc)
@@ -226,7 +232,7 @@ module _ (m : State) (k : Memory) (H : Holds m k) where
             to = c .0;
             chain = (
               refl,
-              rw (getD-set-same (k .link) f newest 0 (omega (arith, taken-honest .1, H .roomy .link)))
+              rw (getD-set-same (k .link) f newest 0 (omega (arith, taken-honest .1, long)))
                   (chain-kept (k .link) f newest newest (c .0) (newestFirst m a) (not-held m (H .sound) f rest is a) (c .1)),
             );
           })

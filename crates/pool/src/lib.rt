@@ -121,7 +121,8 @@ pub fn free(head: Head) -> Free
     if !sizes_ok(head) {
         return Free::Refused(1);
     }
-    if head.frames < head.many {
+    // a linked frame was given once, so there are no more of them than were given
+    if head.fresh < head.many {
         return Free::Refused(9);
     }
     if head.frames < head.fresh {

@@ -12,8 +12,7 @@ use Rattle.requests.specs.Requests.{replied}
 use Rattle.requests.specs.declared.Reply.{Reply}
 use Rattle.printing.specs.Text.{text}
 use Rattle.printing.specs.Writing.{Wrote, shown, roomy, saidText, Says}
-use Rattle.printing.specs.Laws.{said-whole}
-use Rattle.printing.proofs.Written.{wrote-none}
+use Rattle.printing.specs.Laws.{wrote-none, said-whole}
 
 module _ (at : ℕ) (out : List ℕ) (r : Reply) (bytes records : List ℕ) where
   -- nothing is said where the four tests can't all hold

@@ -6,7 +6,7 @@ use native.Mathlib.Nat.{add-zero, mod-eq-of-lt, pow-suc, pow-le-pow-right, lt-of
 use native.Mathlib.Numerals.{add-one, unary-clauses}
 use native.Mathlib.Omega.{arith}
 use borrow.Author.Tests.{lt-ltb, le-ltb}
-use lib.ListN.{length, take, drop, set, getD, length-append, length-set, take-append-drop}
+use lib.ListN.{length, take, drop, set, getD, length-append, length-set}
 use lib.Seq.{take-suc, take-at, drop-drop, set-split}
 use Rattle.io.specs.Digits.{glyph, digits, Fewest}
 use Rattle.promise.specs.Filled.{recordsIn}
@@ -18,9 +18,6 @@ use Rattle.printing.specs.Writing.{Wrote}
 use Rattle.printing.specs.Laws.{wrote-front, wrote-back}
 
 -- ---- writing
-
-pub wrote-none : (at : ℕ) (out : List ℕ) → Wrote at out [] at out
-wrote-none at out = record { long = refl; end-is = omega arith; out-is = rw (add-zero, take-append-drop) }
 
 -- one text, then another
 pub wrote-more : {at e e₂ : ℕ} {out xs out₁ ys out₂ : List ℕ} → Wrote at out xs e out₁ → Wrote e out₁ ys e₂ out₂ → Wrote at out (xs ++ ys) e₂ out₂

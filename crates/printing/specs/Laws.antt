@@ -14,6 +14,9 @@ use Rattle.printing.specs.Writing.{Wrote, shown, saidText}
 
 -- ---- before and after the text
 
+pub wrote-none : (at : ℕ) (out : List ℕ) → Wrote at out [] at out
+wrote-none at out = record { long = refl; end-is = omega arith; out-is = rw (add-zero, take-append-drop) }
+
 -- a text that keeps the buffer's length is empty or lies inside it
 parts : (at : ℕ) (out cs : List ℕ) → length (take at out ++ (cs ++ drop (at + length cs) out)) ≡ length out
     → (take (at + length cs) (take at out ++ (cs ++ drop (at + length cs) out)) ≡ take at out ++ cs)

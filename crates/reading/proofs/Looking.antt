@@ -3,11 +3,11 @@ use mathlib.Core.Path.{_≡_}
 use mathlib.Core.List.{List}
 use Prim.Native.Nat.{ℕ, _+_, _≤_, _<_}
 use native.Mathlib.Omega.{arith}
-use Rattle.machine.specs.Machine.{look}
+use Rattle.machine.specs.Machine.{look, asked}
 use Rattle.machine.specs.Answers.{lookedSays}
 use Rattle.machine.specs.declared.Looked.{Looked}
 use Rattle.machine.specs.declared.Looked.the-variants.{Resident}
-use Rattle.memory.specs.Memory.{Memory}
+use Rattle.memory.specs.Memory.{Memory, sizesOf, lengths}
 use Rattle.promise.specs.Did.{Did}
 use Rattle.reading.specs.Reading.{ResidentTo, resident-none, resident-more}
 
@@ -21,12 +21,12 @@ pub looking-none : (k : List ℕ → Memory) (i first count : ℕ) → Looking k
 looking-none k i first count = record { from = omega arith; within = omega arith; resident = λ link. resident-none (k link) i first }
 
 pub looking-more : (k : List ℕ → Memory) (i first end page : ℕ) → Looking k i first end page → page < end
-    → ((link : List ℕ) → (i < k link .head .spaces) × (page < k link .head .pages))
+    → ((link : List ℕ) → asked (sizesOf (k link .head)) (look i page (lengths (k link))) ≡ 0)
     → (found : Looked) (f : ℕ) → found ≡ Resident f → ((link : List ℕ) → Did (look i page) (k link) (lookedSays found) (k link)) → Looking k i first end
     (page + 1)
-looking-more k i first end page s l inside found f is looked =
+looking-more k i first end page s l passes found f is looked =
     record {
       from = omega (arith, s .from);
       within = omega arith;
-      resident = λ link. resident-more (k link) i first page (s .from) (s .resident link) (inside link .0) (inside link .1) found (looked link) f is;
+      resident = λ link. resident-more (k link) i first page (s .from) (s .resident link) (passes link) found (looked link) f is;
     }

@@ -80,8 +80,8 @@ module _ (k : Memory) (i a : ℕ) where
   unfolding firstAbsence
   resident-none m h = ap (firstAbsence m (placeOf (m .sizes) i a)) (sub-self a)
 
-  module _ (b : ℕ) (l : a ≤ b) (before : ResidentTo k i a b) (s : i < k .head .spaces) (p : b < k .head .pages) (found : Looked)
-      (looked : Did (look i b) k (lookedSays found) k) where
+  module _ (b : ℕ) (l : a ≤ b) (before : ResidentTo k i a b) (passes : asked (sizesOf (k .head)) (look i b (lengths k)) ≡ 0)
+      (found : Looked) (looked : Did (look i b) k (lookedSays found) k) where
     -- the page after them, as it was found
     next-is : (m : State) → Holds m k → (n : ℕ) → absence (pageOf m (placeOf (m .sizes) i b)) ≡ n → firstAbsence m (placeOf (m .sizes) i a) (b - a + 1) ≡ n
     next-is m h n e =
@@ -90,7 +90,7 @@ module _ (k : Memory) (i a : ℕ) where
         ∙ e
 
     found-is : (m : State) → Holds m k → Found m (placeOf (m .sizes) i b) found
-    found-is m h = page-found m k h i b s p found looked
+    found-is m h = page-found m k h i b passes found looked
 
     pub resident-more : (f : ℕ) → found ≡ Resident f → ResidentTo k i a (b + 1)
     resident-more f e m h =
@@ -128,15 +128,16 @@ module _ (i x : ℕ) (k : Memory) (buffer : List ℕ) (r : ℕ) (checked : r ≡
       unfolding accepted
       read-stopped b l t before found looked n e =
           let p = span-page z x (length buffer) b (reached .sizes-ok) (reached .ends) (omega arith) (omega arith) in
-          let later = looked-later i b k _ (page-passes z Look i b (lengths k) (reached .sizes-ok) (reached .space) p (reached .lent)) looked in
-          let given = refused-later i b (lengths k) found n e later in
+          let look-passes = page-passes z Look i b (lengths k) (reached .sizes-ok) (reached .space) p (reached .lent) in
+          let later = looked-later i b k _ look-passes looked in
+          let given = refused-later z i b (lengths k) found n e later in
           let low = from-four _ _ _ n (omega arith) (omega arith) (omega arith) given in
           record {
             did =
-                told-did (read i x (length buffer)) k (refused n) passes given (tt, tt)
+                told-did (read i x (length buffer)) k (refused n) passes (given, refl) (tt, tt)
                 (λ m h.
                 ap (λ (c : ℕ). tell m (readIf m i x (length buffer) c))
-                (absence-is m h n (stopped-at k i first b l before (reached .space) p found looked n count e low t m h))
+                (absence-is m h n (stopped-at k i first b l before look-passes found looked n count e low t m h))
                 ∙ ap (tell m) (read-refused m n low));
             kept = λ _ _. refl;
           }
@@ -151,7 +152,7 @@ module _ (i x : ℕ) (k : Memory) (buffer : List ℕ) (r : ℕ) (checked : r ≡
       read-copied b last all buffer′ copied =
           record {
             did =
-                told-did (read i x (length buffer)) k (bytes buffer′) passes tt (tt, tt)
+                told-did (read i x (length buffer)) k (bytes buffer′) passes refl (tt, tt)
                 (λ m h.
                 let none = absence-is m h 0
                 (subst (λ (c : ℕ). firstAbsence m (placeOf (m .sizes) i first) c ≡ 0) (let s : b - first ≡ count = omega arith in s) (all m h)) in

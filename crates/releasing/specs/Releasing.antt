@@ -145,8 +145,8 @@ module _ (m : State) (k : Memory) (H : Holds m k) (a : ℕ) (x : Pair) (xs : Lis
         sum-append (hit (x .frame)) (p .linked) (unused (k .head .fresh) (k .head .frames)),
       )
 
-  pooled-spliced : Pooled (spliced k a .head) (spliced k a .link) (emptied m a .pool)
-  pooled-spliced =
+  pooled-spliced : m .sizes .frames ≤ length (k .link) → Pooled (spliced k a .head) (spliced k a .link) (emptied m a .pool)
+  pooled-spliced long =
       let p = H .pooled in
       let newest = newestOf (k .table) (k .stack) a (at (k .count) a) in
       let c = chain-newest m k H a newest (newest-honest m k H a low) in
@@ -157,7 +157,7 @@ module _ (m : State) (k : Memory) (H : Holds m k) (a : ℕ) (x : Pair) (xs : Lis
         chain =
             rw (oldest-is, frames-are)
             (chain-spliced (k .link) (x .frame) newest (c .0) (k .head .first) (p .stop) (framesOf (reverse xs)) (p .linked)
-            (omega (arith, oldest-below, H .roomy .link)) not-younger not-linked (rw frames-are at (c .1)) (p .chain));
+            (omega (arith, oldest-below, long)) not-younger not-linked (rw frames-are at (c .1)) (p .chain));
         fresh-fits = p .fresh-fits;
         pool-is = rw (p .pool-is, append-assoc);
       }
@@ -172,26 +172,16 @@ module _ (m : State) (k : Memory) (H : Holds m k) (a : ℕ) (x : Pair) (xs : Lis
   others : (b : ℕ) → b ≢ a → region (emptied m a) b ≡ region m b
   others b d = getD-set-other (m .held) a b [] [] d
 
-  pub holds-spliced : Holds (emptied m a) (spliced k a)
-  holds-spliced =
+  pub holds-spliced : m .sizes .frames ≤ length (k .link) → Holds (emptied m a) (spliced k a)
+  holds-spliced long =
       record {
         sound = sound-emptied m (H .sound) a is-start;
         sizes-are = H .sizes-are;
-        roomy =
-            let r = H .roomy in
-            record {
-              index = r .index;
-              count = rw length-set (r .count);
-              table = r .table;
-              helper = r .helper;
-              stack = r .stack;
-              cache = r .cache;
-              link = rw length-set (r .link);
-              ram = r .ram;
-            };
+        index-long = H .index-long;
+        count-long = rw length-set (H .count-long);
         index-is = H .index-is;
         counts = λ p l. elim (ℕ-discrete p a) [
-          | yes e ↦ rw (e, now-empty) (getD-set-same (k .count) a 0 0 (omega (arith, low, H .roomy .count)))
+          | yes e ↦ rw (e, now-empty) (getD-set-same (k .count) a 0 0 (omega (arith, low, H .count-long)))
           | no d ↦ rw (others p d, getD-set-other (k .count) a p 0 0 d) (H .counts p l)
         ];
         entries = λ b j. elim (ℕ-discrete b a) [
@@ -209,7 +199,7 @@ module _ (m : State) (k : Memory) (H : Holds m k) (a : ℕ) (x : Pair) (xs : Lis
               (linked-kept (k .link) (x .frame) (k .head .first) (newestFirst m b) (omega (arith, oldest-held, one-region m (H .sound) (x .frame) b a d))
               (H .links b))
         ];
-        pooled = pooled-spliced;
+        pooled = pooled-spliced long;
         ram-is = H .ram-is;
       }
 
@@ -247,7 +237,7 @@ module _ (k : Memory) (i b : ℕ) (e : asked (sizesOf (k .head)) (release i b (l
 
   no-start-did : bitAt (k .index) a₀ ≡ false → Did (release i b) k (refused 5) k
   no-start-did is =
-      kept-did (release i b) k (refused 5) e (inl refl) (tt, tt)
+      kept-did (release i b) k (refused 5) e (inl refl, refl) (tt, tt)
       (λ m H. let o = out-is m H false is in (sym (ap (λ r. r .answer) o), ap (λ r. r .after) o))
 
   module _ (set : bitAt (k .index) a₀ ≡ true) where
@@ -263,7 +253,7 @@ module _ (k : Memory) (i b : ℕ) (e : asked (sizesOf (k .head)) (release i b (l
 
     empty-did : at (k .count) a₀ ≡ 0 → Did (release i b) k (pages 0) k
     empty-did c =
-        kept-did (release i b) k (pages 0) e tt (tt, tt)
+        kept-did (release i b) k (pages 0) e refl (tt, tt)
         (λ m H.
         (sym (answer-start m H ∙ ap pages c), after-start m H ∙ emptied-same m a₀ (none-in (region m a₀) (sym (counted-here m H) ∙ c))))
       where
@@ -284,14 +274,14 @@ module _ (k : Memory) (i b : ℕ) (e : asked (sizesOf (k .head)) (release i b (l
 
       broken-did : test ≡ false → Did (release i b) k (refused 9) k
       broken-did f =
-          kept-did (release i b) k (refused 9) e (inr (inl refl)) (tt, tt)
+          kept-did (release i b) k (refused 9) e (inr (inl refl), refl) (tt, tt)
           (λ m H. let (x, xs, is) = has-page m H in absurd (true≢false (sym (cut-honest m k H a₀ x xs is) ∙ f)))
 
       spliced-did : test ≡ true → Did (release i b) k (pages (at (k .count) a₀)) (spliced k a₀)
       spliced-did f =
           let t = cut-says (k .head) (k .table) (k .stack) (places z) a₀ (at (k .count) a₀) f in
           record {
-            asks = rw e tt;
+            asks = rw e refl;
             stays = λ s. absurd (true≢false (sym (rw c at s)));
             bounds =
                 record {
@@ -309,9 +299,10 @@ module _ (k : Memory) (i b : ℕ) (e : asked (sizesOf (k .head)) (release i b (l
                       };
                   ram = refl;
                 };
-            honest = λ m H _.
+            honest = λ m H.
                 let (x, xs, is) = has-page m H in
-                record { answer-is = sym (answer-start m H); holds = rw (after-start m H) (holds-spliced m k H a₀ x xs is) };
+                let long = subst (λ (y : Sizes). y .frames ≤ length (k .link)) (H .sizes-are) (known .lent .link refl) in
+                record { answer-is = sym (answer-start m H); holds = rw (after-start m H) (holds-spliced m k H a₀ x xs is long) };
             begins = tt;
           }
 

@@ -11,18 +11,13 @@ use Rattle.machine.specs.Machine.{Sizes, sizes, sizesOk, State, Lent, Call, sta
 use Rattle.machine.specs.Machine.{unstarted, step}
 use Rattle.memory.specs.Memory.{Memory, memory, sizesOf, lengths}
 use Rattle.promise.specs.Holds.{Holds}
-use Rattle.promise.specs.Did.{Did, Exactly, still, Room}
+use Rattle.promise.specs.Did.{Did, Exactly, still}
 use Rattle.laws.specs.Refusals.{passed-step, refused-step, refusal-still}
-use Rattle.demands.specs.History.{front, rejoined, Lends, Carries, Step}
+use Rattle.demands.specs.History.{front, rejoined, Lends, Carries, FrontStep, lent-front}
 use Rattle.demands.specs.Laws.Step.{step-follows}
-use Rattle.demands.specs.Laws.Run.{accepted-asks}
 use Rattle.requests.specs.Requests.{requested}
 use Rattle.requests.specs.declared.Request.{Request}
 use Rattle.requests.specs.declared.Request.the-variants.{Start, Page, Free, Translate, Read, Write, List as Listing}
-
--- "The memory is long enough for the accepted start's sizes": a request that passes the checks for 1 to 3 finds room
-abbrev pub RoomFor : Request → Memory → Type 0
-RoomFor q k = (bytes records : List ℕ) → asked (sizesOf (k .head)) (requested q bytes records (lengths k)) ≡ 0 → Room (requested q bytes records (lengths k)) k
 
 -- ---- a call lent all of the memory is a step of a sequence
 
@@ -53,9 +48,9 @@ carries-own (Read i x) bytes records l = refl
 carries-own (Write i x) bytes records l = refl
 carries-own (Listing i) bytes records l = refl
 
-pub whole-step : (q : Request) (bytes records : List ℕ) (k : Memory) (a : Answer) (k₁ : Memory) → RoomFor q k → Did (requested q bytes records) k a k₁
-    → Step k (record { call = requested q bytes records; lent = lengths k; answer = a }) k₁
-whole-step q bytes records k a k₁ room d =
+pub whole-step : (q : Request) (bytes records : List ℕ) (k : Memory) (a : Answer) (k₁ : Memory) → Did (requested q bytes records) k a k₁
+    → FrontStep k (record { call = requested q bytes records; lent = lengths k; answer = a }) k₁
+whole-step q bytes records k a k₁ d =
     let l = lengths k in
     let c = requested q bytes records l in
     let u = uses c in
@@ -71,8 +66,6 @@ whole-step q bytes records k a k₁ room d =
         ram = lends-whole (u .ram) _;
       };
       carries = carries-own q bytes records l;
-      room = λ e. room bytes records
-          (accepted-asks (asked (sizesOf (k .head)) c) c (subst (λ (x : Answer). Exactly (asked (sizesOf (k .head)) c) c x) e (d .asks)));
       part = k₁;
       did = subst (λ (x : Memory). Did (requested q bytes records) x a k₁) (sym (front-whole k)) d;
       after-is = sym (rejoined-whole k k₁);
@@ -102,7 +95,7 @@ module _ (m : State) (k : Memory) (a : Answer) (k₁ : Memory) (u : Unstarted m 
   refused-alike : (c : Lent → Call) (j : ℕ) → asked (sizesOf (k .head)) (c (lengths k)) ≡ suc j → asked (m .sizes) (c (lengths k)) ≡ suc j → Did c k a k₁
       → FollowsMachine m (c (lengths k)) a k₁
   refused-alike c j e e′ d =
-      let r : a ≡ refusal (c (lengths k)) (suc j) = subst (λ (i : ℕ). Exactly i (c (lengths k)) a) e (d .asks) in
+      let r : a ≡ refusal (c (lengths k)) (suc j) = subst (λ (i : ℕ). Exactly i (sizesOf (k .head)) (c (lengths k)) a) e (d .asks) in
       let o = refused-step m (c (lengths k)) j e′ in
       record {
         answer-is = r ∙ sym (ap (λ (x : Out). x .answer) o);
@@ -117,43 +110,42 @@ module _ (m : State) (k : Memory) (a : Answer) (k₁ : Memory) (u : Unstarted m 
   refused-first c one d = refused-alike c 0 (one _ (no-sizes _ (u .none))) (one _ (no-sizes _ same-none)) d
 
   -- a start begins with the RAM as it stands
-  first-start : (z : Sizes) → Room (start z (lengths k)) k → asked (sizesOf (k .head)) (start z (lengths k)) ≡ 0 → asked (m .sizes) (start z (lengths k)) ≡ 0
+  first-start : (z : Sizes) → asked (sizesOf (k .head)) (start z (lengths k)) ≡ 0 → asked (m .sizes) (start z (lengths k)) ≡ 0
       → Did (start z) k a k₁
       → FollowsMachine m (start z (lengths k)) a k₁
   unfolding accepted
-  first-start z room e e′ d =
+  first-start z e e′ d =
       let o = passed-step m (start z (lengths k)) e′ in
       let b = d .begins e in
       record {
         answer-is = b .0 ∙ sym (ap (λ (x : Out). x .answer) o);
         stands =
             subst (λ (x : Out). Stands (x .after) k₁) (sym o)
-            (inl (subst (λ (ram : List ℕ). Holds (begun z ram) k₁) (sym (ap (λ (x : State). x .ram) (u .state-is))) (b .1 room)));
+            (inl (subst (λ (ram : List ℕ). Holds (begun z ram) k₁) (sym (ap (λ (x : State). x .ram) (u .state-is))) (b .1)));
       }
 
-  start-served : (z : Sizes) → (asked (sizesOf (k .head)) (start z (lengths k)) ≡ 0 → Room (start z (lengths k)) k) → Did (start z) k a k₁
-      → FollowsMachine m (start z (lengths k)) a k₁
+  start-served : (z : Sizes) → Did (start z) k a k₁ → FollowsMachine m (start z (lengths k)) a k₁
   unfolding asked
-  start-served z room d = go (asked (sizesOf (k .head)) (start z (lengths k))) refl
+  start-served z d = go (asked (sizesOf (k .head)) (start z (lengths k))) refl
     where
       go : (j : ℕ) → asked (sizesOf (k .head)) (start z (lengths k)) ≡ j → FollowsMachine m (start z (lengths k)) a k₁
-      go zero e = first-start z (room e) e e d
+      go zero e = first-start z e e d
       go (suc j) e = refused-alike (start z) j e e d
 
-  unstarted-served : (q : Request) (bytes records : List ℕ) → RoomFor q k → Did (requested q bytes records) k a k₁
+  unstarted-served : (q : Request) (bytes records : List ℕ) → Did (requested q bytes records) k a k₁
       → FollowsMachine m (requested q bytes records (lengths k)) a k₁
   unfolding asked
-  unstarted-served (Start s n f p) bytes records room d = start-served (sizes s n f p) (room bytes records) d
-  unstarted-served (Page p i b) bytes records room d = refused-first _ (λ z e. rw e) d
-  unstarted-served Free bytes records room d = refused-first _ (λ z e. rw e) d
-  unstarted-served (Translate i x) bytes records room d = refused-first _ (λ z e. rw e) d
-  unstarted-served (Read i x) bytes records room d = refused-first _ (λ z e. rw e) d
-  unstarted-served (Write i x) bytes records room d = refused-first _ (λ z e. rw e) d
-  unstarted-served (Listing i) bytes records room d = refused-first _ (λ z e. rw e) d
+  unstarted-served (Start s n f p) bytes records d = start-served (sizes s n f p) d
+  unstarted-served (Page p i b) bytes records d = refused-first _ (λ z e. rw e) d
+  unstarted-served Free bytes records d = refused-first _ (λ z e. rw e) d
+  unstarted-served (Translate i x) bytes records d = refused-first _ (λ z e. rw e) d
+  unstarted-served (Read i x) bytes records d = refused-first _ (λ z e. rw e) d
+  unstarted-served (Write i x) bytes records d = refused-first _ (λ z e. rw e) d
+  unstarted-served (Listing i) bytes records d = refused-first _ (λ z e. rw e) d
 
-pub serve-follows : (m : State) (k : Memory) (q : Request) (bytes records : List ℕ) (a : Answer) (k₁ : Memory) → Stands m k → RoomFor q k
+pub serve-follows : (m : State) (k : Memory) (q : Request) (bytes records : List ℕ) (a : Answer) (k₁ : Memory) → Stands m k
     → Did (requested q bytes records) k a k₁ → FollowsMachine m (requested q bytes records (lengths k)) a k₁
-serve-follows m k q bytes records a k₁ (inl H) room d =
-    let f = step-follows m k _ k₁ H (whole-step q bytes records k a k₁ room d) in
+serve-follows m k q bytes records a k₁ (inl H) d =
+    let f = step-follows m k _ k₁ H (lent-front (whole-step q bytes records k a k₁ d)) in
     record { answer-is = f .answer-is; stands = inl (f .holds) }
-serve-follows m k q bytes records a k₁ (inr u) room d = unstarted-served m k a k₁ u q bytes records room d
+serve-follows m k q bytes records a k₁ (inr u) d = unstarted-served m k a k₁ u q bytes records d

@@ -11,21 +11,20 @@ use Rattle.requests.specs.declared.Request.the-variants.{Start, Page, Free, Tra
 use Rattle.fields.specs.Fields.{unhexed}
 use Rattle.printing.specs.Writing.{Says}
 
--- a write's bytes; other requests leave it
-abbrev pub FillsBytes : Request → List ℕ → ℕ → List ℕ → List ℕ → Type 0
-FillsBytes (Start s n f p) line count buffer buffer′ = buffer′ ≡ buffer
-FillsBytes (Page p i b) line count buffer buffer′ = buffer′ ≡ buffer
-FillsBytes Free line count buffer buffer′ = buffer′ ≡ buffer
-FillsBytes (Translate i x) line count buffer buffer′ = buffer′ ≡ buffer
-FillsBytes (Read i x) line count buffer buffer′ = buffer′ ≡ buffer
-FillsBytes (Write i x) line count buffer buffer′ = buffer′ ≡ unhexed line count buffer
-FillsBytes (Listing i) line count buffer buffer′ = buffer′ ≡ buffer
+-- the byte buffer ahead of a call: a write's bytes stand at its front; other requests leave it
+abbrev pub filledBy : Request → List ℕ → ℕ → List ℕ → List ℕ
+filledBy (Start s n f p) line count buffer = buffer
+filledBy (Page p i b) line count buffer = buffer
+filledBy Free line count buffer = buffer
+filledBy (Translate i x) line count buffer = buffer
+filledBy (Read i x) line count buffer = buffer
+filledBy (Write i x) line count buffer = unhexed line count buffer
+filledBy (Listing i) line count buffer = buffer
 
--- a call was made on these bytes and records, and its reply said
-pub record CallAnswered (q : Request) (k : Memory) (bytes records : List ℕ) (at : ℕ) (out : List ℕ) (end : ℕ) (k′ : Memory) (out′ : List ℕ) : Type 0 where
+-- a call was made on these bytes and records, and its reply said, on any memory
+pub record CallAnswered (q : Request) (k : Memory) (bytes records : List ℕ) (at : ℕ) (out : List ℕ) (end : ℕ) (k′ : Memory)
+    (bytes′ records′ out′ : List ℕ) : Type 0 where
   pub reply : Reply
-  pub bytes′ : List ℕ
-  pub records′ : List ℕ
   pub bytes-long : length bytes′ ≡ length bytes
   pub records-long : length records′ ≡ length records
   pub serves : Serves q k bytes records reply k′ bytes′ records′

@@ -1,4 +1,4 @@
 pub mod Session
-pub mod Room
+pub mod Promise
 pub mod Filling
 pub mod Laws

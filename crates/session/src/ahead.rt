@@ -6,7 +6,7 @@ ghost use mathlib.Core.Path.{_≡_};
 ghost use Prim.Native.Nat.{_*_};
 ghost use lib.Dec.{leb};
 ghost use Rattle.session.specs.Session.{beyond};
-ghost use Rattle.session.specs.Filling.{FillsBytes};
+ghost use Rattle.session.specs.Filling.{filledBy};
 
 fn is_large(s: u32, n: u32, f: u32, p: u32) -> bool
     ensures { λ r. ⌜ r ≡ not (leb (s * n) 1024 && leb (f * p) 32768) ⌝ }
@@ -34,7 +34,7 @@ pub(crate) fn is_beyond(request: Request) -> bool
 
 // The bytes of a write, from the line's end to the front of the buffer.
 pub(crate) fn fill(request: Request, line: &[u8], n: usize, buffer: &mut [u8])
-    ensures { λ _. ⌜ FillsBytes request (now (line .entry)) n (now (buffer .entry)) (now (buffer .exit)) ⌝ }
+    ensures { λ _. ⌜ now (buffer .exit) ≡ filledBy request (now (line .entry)) n (now (buffer .entry)) ⌝ }
 {
     match request {
         Request::Write(_, _) => unhex(line, n, buffer),

@@ -11,7 +11,7 @@ use requests::Request;
 use serving::serve;
 ghost use Rattle.memory.specs.Memory.{memory};
 ghost use Rattle.session.specs.Filling.{CallAnswered};
-ghost use Rattle.session.specs.Room.{AnswersLine};
+ghost use Rattle.session.specs.Promise.{AnswersLine};
 
 // The head after a line, and where the line's answer ends.
 pub struct Answered {
@@ -43,7 +43,7 @@ fn answer_call(
         (now (bytes .entry)) (now (records .entry)) at (now (out .entry)) (r .end)
         (memory (r .head) (now (index .exit)) (now (count .exit)) (now (table .exit)) (now (helper .exit)) (now (stack .exit)) (now (cache .exit))
         (now (link .exit)) (now (ram .exit)))
-        (now (out .exit)) ⌝ }
+        (now (bytes .exit)) (now (records .exit)) (now (out .exit)) ⌝ }
 {
     let served = serve(
         head,
@@ -65,7 +65,7 @@ fn answer_call(
     Answered { head: next, end }
 }
 
-// Answers a line, after the first `at` bytes of `out`. The byte buffer has 256 bytes and the records 3,072 numbers.
+// Answers a line, after the first `at` bytes of `out`. With 256 bytes in the buffer and 3,072 numbers in the records every line has its answer.
 pub fn answer_line(
     head: Head,
     line: &[u8],
@@ -90,7 +90,7 @@ pub fn answer_line(
         (r .end)
         (memory (r .head) (now (index .exit)) (now (count .exit)) (now (table .exit)) (now (helper .exit)) (now (stack .exit)) (now (cache .exit))
         (now (link .exit)) (now (ram .exit)))
-        (now (out .exit)) ⌝ }
+        (now (out .exit)) (now (buffer .exit)) (now (records .exit)) ⌝ }
 {
     let said = parse(line);
     let Line::Call(request, n) = said else {

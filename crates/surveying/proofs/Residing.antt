@@ -6,7 +6,7 @@ use Prim.Native.Nat.{ℕ, _+_, _≤_, _<_}
 use native.Mathlib.Decide.{decLe}
 use native.Mathlib.Omega.{arith}
 use Rattle.memory.specs.declared.Head.{Head}
-use Rattle.lookup.specs.Ready.{frameOf}
+use Rattle.promise.specs.Shown.{frameOf}
 use Rattle.surveying.specs.Surveys.{AllResident, Whether}
 
 -- the pages before `page` are all resident

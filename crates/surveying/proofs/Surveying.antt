@@ -44,11 +44,11 @@ absence-is m p found e = go found (pageOf m p) e
     go (looked-is.Refused n v) (unmapped a) e = absurd (let z : _≡_ {A = ℕ} 0 1 = cc in omega arith)
     go (looked-is.Refused n v) (mapped a g) e = absurd (let z : _≡_ {A = ℕ} 0 1 = cc in omega arith)
 
-refused-late : (i b : ℕ) (l : Lent) (r : Looked) → Later (look i b l) (lookedSays r) → (absenceOf r ≡ 0 → ⊥) → (absenceOf r ≡ 10 → ⊥)
+refused-late : (z : Sizes) (i b : ℕ) (l : Lent) (r : Looked) → Later z (look i b l) (lookedSays r) → (absenceOf r ≡ 0 → ⊥) → (absenceOf r ≡ 10 → ⊥)
     → Among (4 ∷ 9 ∷ []) (absenceOf r)
-refused-late i b l (looked-is.Resident f) g d t = absurd (d refl)
-refused-late i b l (looked-is.Absent w) g d t = absurd (t refl)
-refused-late i b l (looked-is.Refused n w) g d t = g
+refused-late z i b l (looked-is.Resident f) g d t = absurd (d refl)
+refused-late z i b l (looked-is.Absent w) g d t = absurd (t refl)
+refused-late z i b l (looked-is.Refused n w) g d t = g .0
 
 -- a look's number is one of a write
 of-write : (n : ℕ) → Among (4 ∷ 9 ∷ []) n → Among (4 ∷ 8 ∷ 9 ∷ []) n
@@ -109,7 +109,7 @@ module _ (h : Head) (i first end : ℕ) (index count table helper stack cache : 
       }
 
   module _ {page no : ℕ} (look-of : LookedUp page no) where
-    late : Later (look i page (lengths (lent [] []))) (lookedSays (look-of .found))
+    late : Later (sizesOf h) (look i page (lengths (lent [] []))) (lookedSays (look-of .found))
     late =
         looked-later i page (lent [] []) _ (look-asked h i page index count table helper stack cache (look-of .ready) [] []) (look-of .looks [] [])
 
@@ -117,7 +117,8 @@ module _ (h : Head) (i first end : ℕ) (index count table helper stack cache : 
     told link ram m H =
         look-of .no-is
         ∙ absence-is m _ (look-of .found)
-        (page-found m (lent link ram) H i page (look-of .ready .space) (look-of .ready .page) (look-of .found) (look-of .looks link ram))
+        (page-found m (lent link ram) H i page (look-asked h i page index count table helper stack cache (look-of .ready) link ram) (look-of .found)
+        (look-of .looks link ram))
 
     -- the pages from `page` on are it and the rest
     span-more : (m : State)
@@ -161,7 +162,7 @@ module _ (h : Head) (i first end : ℕ) (index count table helper stack cache : 
         → SpanSurveyed h i first end index count table helper stack cache (Refused no)
     counted-outside c d t =
         record {
-          late = rw (look-of .no-is) (refused-late i page _ (look-of .found) late (λ e. d (look-of .no-is ∙ e)) (λ e. t (look-of .no-is ∙ e)));
+          late = rw (look-of .no-is) (refused-late _ i page _ (look-of .found) late (λ e. d (look-of .no-is ∙ e)) (λ e. t (look-of .no-is ∙ e)));
           honest = λ link ram m H.
               let e = told link ram m H in
               let s = page-outside (pageOf m (placeOf (m .sizes) i page)) (λ q. d (e ∙ q)) (λ q. t (e ∙ q)) in
@@ -185,7 +186,7 @@ module _ (h : Head) (ok : sizesOk (sizesOf h) ≡ true) (seen : Tally) where
         → freeSays r ≡ frames (length (m .pool))
     unfolding accepted
     pool-is index count table helper stack cache link ram m H =
-        frees index count table helper stack cache link ram .honest m H tt .answer-is
+        frees index count table helper stack cache link ram .honest m H .answer-is
         ∙ ap (λ o. o .answer) (passed-step m free (ap (λ (z : Sizes). asked z free) (sym (H .sizes-are)) ∙ passes-free))
 
     pub settled-short : (n absent : ℕ) → r ≡ free-is.Frames n → seen ≡ Absent absent → n < absent → Settled h seen 8
@@ -213,9 +214,9 @@ module _ (h : Head) (ok : sizesOk (sizesOf h) ≡ true) (seen : Tally) where
     -- a pool that no call left so
     pub settled-broken : (n absent : ℕ) → r ≡ free-is.Refused n → seen ≡ Absent absent → Settled h seen n
     settled-broken n absent e s =
-        let a = rw passes-free at (frees [] [] [] [] [] [] [] [] .asks) in
+        let a = rw (passes-free, e) at (frees [] [] [] [] [] [] [] [] .asks) in
         record {
-          late = λ _ _. inr (inr (rw e at a));
+          late = λ _ _. inr (inr (a .0));
           honest = λ index count table helper stack cache link ram m H.
               let p = pool-is index count table helper stack cache link ram m H in
               absurd (let z : _≡_ {A = ℕ} 0 1 = cc in omega arith);

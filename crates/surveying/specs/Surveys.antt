@@ -10,7 +10,7 @@ use Rattle.memory.specs.Memory.{memory}
 use Rattle.memory.specs.declared.Head.{Head}
 use Rattle.promise.specs.Holds.{Holds}
 use Rattle.promise.specs.Did.{Among}
-use Rattle.lookup.specs.Ready.{frameOf}
+use Rattle.promise.specs.Shown.{frameOf}
 use Rattle.surveying.specs.declared.Tally as tally
 use Rattle.surveying.specs.declared.Tally.the-variants as tally-is
 

@@ -10,18 +10,20 @@ use native.Mathlib.Omega.{arith}
 use borrow.Author.Tests.{lt-ltb}
 use lib.ListN.{length, getD, length-set, length-append, List·getD-append}
 use lib.Seq.{getD-set-same, getD-set-other, getD-append-seam}
-use Rattle.machine.specs.Machine.{places, State, Pair, region, startOf, pageOf, unmapped, withPair}
+use Rattle.machine.specs.declared.PageCall.the-variants.{Touch}
+use Rattle.machine.specs.Machine.{places, State, Pair, region, startOf, pageOf, unmapped, withPair, pageFacts}
 use Rattle.machine.specs.Claims.{noPair}
 use Rattle.machine.specs.Laws.Regions.{owner-of}
 use Rattle.machine.specs.Laws.Lookup.{Unmapped, is-unmapped, not-in}
 use Rattle.machine.specs.Laws.Kept.{sound-paired}
 use Rattle.machine.specs.Laws.Stays.{held-inside}
-use Rattle.memory.specs.Memory.{Memory, at, sizesOf}
+use Rattle.memory.specs.Memory.{Memory, at, sizesOf, lengths}
 use Rattle.memory.specs.declared.Head.{Head}
 use Rattle.promise.specs.Holds.{Placed, Holds}
 use Rattle.touching.specs.Models.{topOk, fitOk, mapPage}
 use Rattle.pool.specs.Models.{nextOk, newestOf, takenFrom, taken}
 use Rattle.pool.specs.Pool.{taken-honest, pooled-taken, linked-paired, newest-honest}
+use Rattle.laws.specs.Refusals.{Long}
 use Rattle.laws.specs.Room.{owned-below, stack-room}
 
 -- a frame taken changes no size
@@ -79,7 +81,7 @@ module _ (m : State) (k : Memory) (h : Holds m k) (p a : ℕ) (low : p < places 
       omega (arith, counted, ap (λ (c : ℕ). length (region m c)) same)
 
   -- for the frame that the code takes
-  module _ (rest : List ℕ) (is : m .pool ≡ taken (k .link) (k .head) .frame ∷ rest) where
+  module _ (lent : Long (pageFacts Touch .uses) (m .sizes) (lengths k)) (rest : List ℕ) (is : m .pool ≡ taken (k .link) (k .head) .frame ∷ rest) where
     abbrev pair : Pair
     pair = record { place = p; frame = taken (k .link) (k .head) .frame }
 
@@ -108,10 +110,10 @@ module _ (m : State) (k : Memory) (h : Holds m k) (p a : ℕ) (low : p < places 
     new-placed : Placed after (mapPage k a p) a (length (region m a)) pair
     new-placed =
         record {
-          stack-is = rw (← counted) (getD-set-same (k .stack) (a + at (k .count) a) p 0 (omega (arith, top-low, h .roomy .stack)));
-          helper-is = getD-set-same (k .helper) p _ 0 (omega (arith, h .roomy .helper)) ∙ counted;
-          cache-is = getD-set-same (k .cache) p a 0 (omega (arith, h .roomy .cache));
-          table-is = getD-set-same (k .table) p _ 0 (omega (arith, h .roomy .table));
+          stack-is = rw (← counted) (getD-set-same (k .stack) (a + at (k .count) a) p 0 (omega (arith, top-low, lent .stack refl)));
+          helper-is = getD-set-same (k .helper) p _ 0 (omega (arith, lent .helper refl)) ∙ counted;
+          cache-is = getD-set-same (k .cache) p a 0 (omega (arith, lent .cache refl));
+          table-is = getD-set-same (k .table) p _ 0 (omega (arith, lent .table refl));
           room = stack-room m (h .sound) p a u;
         }
 
@@ -132,7 +134,7 @@ module _ (m : State) (k : Memory) (h : Holds m k) (p a : ℕ) (low : p < places 
     all-counted : (q : ℕ) → q < places (m .sizes) → at (mapPage k a p .count) q ≡ length (region after q)
     all-counted q l = elim (ℕ-discrete q a) [
       | yes e ↦
-          rw (e, getD-set-same (k .count) a (at (k .count) a + 1) 0 (omega (arith, h .roomy .count)), region-here, length-append)
+          rw (e, getD-set-same (k .count) a (at (k .count) a + 1) 0 (omega (arith, h .count-long)), region-here, length-append)
           (ap (λ (n : ℕ). n + 1) counted)
       | no d ↦ rw (getD-set-other (k .count) a q (at (k .count) a + 1) 0 d, region-there q d) (h .counts q l)
     ]
@@ -144,26 +146,17 @@ module _ (m : State) (k : Memory) (h : Holds m k) (p a : ℕ) (low : p < places 
         record {
           sound = sound-paired m (h .sound) p a f rest u is;
           sizes-are = sizes-taken (k .link) (k .head) (k .head .many) ∙ h .sizes-are;
-          roomy =
-              record {
-                index = h .roomy .index;
-                count = simp length-set (h .roomy .count);
-                table = simp length-set (h .roomy .table);
-                helper = simp length-set (h .roomy .helper);
-                stack = simp length-set (h .roomy .stack);
-                cache = simp length-set (h .roomy .cache);
-                link = simp length-set (h .roomy .link);
-                ram = h .roomy .ram;
-              };
+          index-long = h .index-long;
+          count-long = simp length-set (h .count-long);
           index-is = h .index-is;
           counts = all-counted;
           entries = all-placed;
-          links = linked-paired m k h f rest is a p newest start-low (newest-honest m k h a start-low);
+          links = linked-paired m k h f rest is (lent .link refl) a p newest start-low (newest-honest m k h a start-low);
           pooled = pooled-taken m k h f rest is newest;
           ram-is = h .ram-is;
         }
 
-  pub map-holds : (f : ℕ) (rest : List ℕ) → m .pool ≡ f ∷ rest → Holds (withPair m a p f rest) (mapPage k a p)
-  map-holds f rest is =
+  pub map-holds : Long (pageFacts Touch .uses) (m .sizes) (lengths k) → (f : ℕ) (rest : List ℕ) → m .pool ≡ f ∷ rest → Holds (withPair m a p f rest) (mapPage k a p)
+  map-holds lent f rest is =
       let e = taken-honest m k h f rest is .0 in
-      subst (λ (g : ℕ). Holds (withPair m a p g rest) (mapPage k a p)) e (holds-after rest (is ∙ ap (λ (g : ℕ). g ∷ rest) (sym e)))
+      subst (λ (g : ℕ). Holds (withPair m a p g rest) (mapPage k a p)) e (holds-after lent rest (is ∙ ap (λ (g : ℕ). g ∷ rest) (sym e)))

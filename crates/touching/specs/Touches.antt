@@ -27,7 +27,8 @@ use Rattle.laws.specs.Passing.{page-passes}
 use Rattle.laws.specs.Checks.{page-check}
 use Rattle.laws.specs.Told.{early-refused}
 use Rattle.touching.specs.Touching.{seen-inside, new-inside, touch-did}
-use Rattle.lookup.specs.Ready.{Ready, SeenOf, frameOf}
+use Rattle.promise.specs.Shown.{frameOf}
+use Rattle.lookup.specs.Ready.{Ready, SeenOf}
 use Rattle.lookup.specs.Sights.{frame-seen, lookable, still-ready, ready-long, not-lent}
 use Rattle.pool.specs.Takes.{TakeableFrom, Top}
 use Rattle.touching.specs.Fits.{Touchable, InReach, Mappable, Mapped, Planned}

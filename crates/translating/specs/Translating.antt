@@ -1,6 +1,7 @@
 -- A translate keeps the promise: one that its check refuses, and one that builds on a look.
-use mathlib.Core.Path.{_≡_, sym, ap, _∙_, subst}
+use mathlib.Core.Path.{_≡_, refl, sym, ap, _∙_, subst}
 use Prim.Native.Nat.{ℕ, _+_, _*_, _/_, _%_, _≤_, _<_}
+use native.Mathlib.Nat.{mod-lt, mul-le-mul-right}
 use native.Mathlib.Omega.{arith}
 use borrow.Author.Tests.{ltb-true, lt-ltb}
 use Rattle.machine.specs.Machine.{Sizes, sizesOk, spaceBytes, pageOfAddress, State, Page, outside, unmapped, mapped, pageOf, uses, look, translate, asked, at}
@@ -8,7 +9,7 @@ use Rattle.machine.specs.Machine.{refused, tell, absence, translatePage, accept
 use Rattle.machine.specs.Answers.{lookedSays}
 use Rattle.machine.specs.declared.Looked.{Looked}
 use Rattle.machine.specs.declared.Looked.the-variants.{Resident}
-use Rattle.machine.specs.Laws.Sizes.{both, fit, page-below}
+use Rattle.machine.specs.Laws.Sizes.{both, fit, some-bytes, page-below}
 use Rattle.memory.specs.Memory.{Memory, sizesOf, lengths}
 use Rattle.promise.specs.Holds.{Holds}
 use Rattle.promise.specs.Did.{Later, Did}
@@ -58,9 +59,9 @@ module _ (i x : ℕ) (k : Memory) where
     page-ready : Ready (k .head) i (x / z .page) (k .index) (k .count) (k .table) (k .helper) (k .stack) (k .cache)
     page-ready = pre .pages _ page-inside
 
-    passes : asked z (translate i x (lengths k)) ≡ 0
+    pub translate-passes : asked z (translate i x (lengths k)) ≡ 0
     unfolding asked
-    passes =
+    translate-passes =
         rw (
           pre .sizes-ok,
           long-enough (uses (translate i x (lengths k))) z (lengths k)
@@ -73,26 +74,34 @@ module _ (i x : ℕ) (k : Memory) where
       looked-there : Did (look i (x / z .page)) k (lookedSays found) k
       looked-there = rw (← page) looked
 
-      later : Later (look i (x / z .page) (lengths k)) (lookedSays found)
-      later =
-          looked-later i _ k _
-          (look-asked (k .head) i _ (k .index) (k .count) (k .table) (k .helper) (k .stack) (k .cache) page-ready (k .link) (k .ram)) looked-there
+      look-passes : asked z (look i (x / z .page) (lengths k)) ≡ 0
+      look-passes = look-asked (k .head) i _ (k .index) (k .count) (k .table) (k .helper) (k .stack) (k .cache) page-ready (k .link) (k .ram)
+
+      later : Later z (look i (x / z .page) (lengths k)) (lookedSays found)
+      later = looked-later i _ k _ look-passes looked-there
 
       honest : (m : State) → Holds m k → Found m (pageOfAddress (m .sizes) i x) found
-      honest m h = address-found m k h i x (pre .here .space) page-inside found looked-there
+      honest m h = address-found m k h i x look-passes found looked-there
+
+      -- on any memory
+      pub frame-below : (f : ℕ) → found ≡ Resident f → f < z .frames
+      frame-below f e = subst (λ (r : Looked). Later z (look i (x / z .page) (lengths k)) (lookedSays r)) e later .1
 
       pub translate-refused : (n : ℕ) → RefusedAs found n → Did (translate i x) k (refused n) k
       unfolding accepted
       translate-refused n e =
-          let given = refused-later i _ (lengths k) found n e later in
-          told-did (translate i x) k (refused n) passes given (tt, tt)
+          let given = refused-later z i _ (lengths k) found n e later in
+          told-did (translate i x) k (refused n) translate-passes (given, refl) (tt, tt)
           (λ m h. ap (tell m) (translate-absent (m .sizes) x (pageOf m (pageOfAddress (m .sizes) i x)) n
           (from-four _ _ _ n (omega arith) (omega arith) (omega arith) given) (refused-is m _ found n e (honest m h) .0)))
 
       pub translate-at : (f q : ℕ) → found ≡ Resident f → q ≡ f * z .page + x % z .page → Did (translate i x) k (at q) k
       unfolding accepted
       translate-at f q e p =
-          told-did (translate i x) k (at q) passes tt (tt, tt)
+          told-did (translate i x) k (at q) translate-passes (refl, place-low) (tt, tt)
           (λ m h.
           ap (λ g. tell m (translatePage (m .sizes) x g)) (residence m _ f (subst (Found m _) e (honest m h)) .is)
           ∙ ap (λ (o : ℕ). tell m (at o)) (sym (p ∙ ap (λ (z : Sizes). f * z .page + x % z .page) (h .sizes-are))))
+        where
+          place-low : q < z .frames * z .page
+          place-low = omega (arith, mul-le-mul-right (z .page) (frame-below f e), mod-lt x (some-bytes z (fit z (pre .sizes-ok))))

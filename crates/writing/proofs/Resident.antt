@@ -10,7 +10,7 @@ use Rattle.promise.specs.Holds.{Holds}
 use Rattle.laws.specs.Spans.{AllTouched, none-touched, one-touched}
 use Rattle.lookup.specs.declared.Sight.the-variants.{Mapped}
 use Rattle.lookup.specs.Lookup.{seen-honest}
-use Rattle.lookup.specs.Ready.{frameOf}
+use Rattle.promise.specs.Shown.{frameOf}
 use Rattle.lookup.specs.Sights.{frame-seen}
 use Rattle.touching.specs.Fits.{Touchable}
 use Rattle.touching.specs.Touches.{did-resident}

@@ -143,13 +143,12 @@ module _ {k : Memory} {i x : ℕ} {vs : List ℕ} {first pages : ℕ} (s : Spann
     pub next-lookable : Lookable (k₁ .head) i (k₁ .index) (k₁ .count) (k₁ .table) (k₁ .helper) (k₁ .stack) (k₁ .cache)
     next-lookable b l = still-ready (all-tables touched) (span-lookable b (subst (λ (y : Sizes). b < y .pages) sizes-stay l))
 
-    pub written : {short : ℕ} → Decided k i x vs short → short ≡ 0 → k₁ .index ≡ k .index → {ram : List ℕ}
+    pub written : {short : ℕ} → Decided k i x vs short → short ≡ 0 → {ram : List ℕ}
         → Stored (k₁ .head) i x vs (k₁ .index) (k₁ .count) (k₁ .table) (k₁ .helper) (k₁ .stack) (k₁ .cache) (k .ram) ram → Did (write i x vs) k done
         (withBytes k₁ ram)
-    written d none index {ram} stores =
+    written d none {ram} stores =
         write-done i x vs k (s .passes) k₁ ram
         (subst (λ (b : ℕ). AllTouched i b k (spanPages z x (length vs)) k₁) (s .first-is) (subst (λ (n : ℕ). AllTouched i first k n k₁) count-is touched))
-        index
         (subst (λ (y : Sizes). Words (length vs) (y .frames * y .page) (k .ram) ram) sizes-stay (stores .words))
         (λ m H. sym none ∙ d .is m H)
         (λ m H on. stores .honest (k₁ .link) (k₁ .ram) m H on)

@@ -16,12 +16,13 @@ use Rattle.machine.specs.Laws.Bytes.{in-pages}
 use Rattle.machine.specs.Laws.Stays.{IsMapped, grown-all-touched, span-mapped}
 use Rattle.memory.specs.Memory.{Memory, sizesOf, lengths}
 use Rattle.promise.specs.Holds.{Holds}
-use Rattle.promise.specs.Did.{Among, Words, Did}
+use Rattle.promise.specs.Did.{Among, Words, Maps, Did}
 use Rattle.laws.specs.Bytes.{withBytes, bytes-hold}
 use Rattle.laws.specs.Spans.{AllTouched}
 use Rattle.laws.specs.Refusals.{Long, long, passed-step}
+use Rattle.laws.specs.Passing.{every-long}
 use Rattle.laws.specs.Told.{from-four, told-did}
-use Rattle.mapping.specs.Touches.{all-tables, all-touched-holds}
+use Rattle.mapping.specs.Touches.{all-maps, all-tables, all-touched-holds}
 use Rattle.storing.specs.Storing.{SpanMapped}
 
 -- ---- the check
@@ -76,6 +77,25 @@ none-refused false false e = (refl, refl)
 
 -- ---- the promise
 
+-- the stores reach only the RAM
+then-stored : {z : Sizes} {i b n : ℕ} {k k₁ : Memory} (ram : List ℕ) → Maps z i b n k k₁ → Maps z i b n k (withBytes k₁ ram)
+then-stored ram t =
+    record {
+      mapped = t .mapped;
+      taken = t .taken;
+      few = t .few;
+      none = t .none;
+      shown = t .shown;
+      sizes = t .sizes;
+      index = t .index;
+      count = t .count;
+      table = t .table;
+      helper = t .helper;
+      stack = t .stack;
+      cache = t .cache;
+      link = t .link;
+    }
+
 module _ (i x : ℕ) (vs : List ℕ) (k : Memory) (passes : asked (sizesOf (k .head)) (write i x vs (lengths k)) ≡ 0) where
   asked-of : (m : State) → Holds m k → asked (m .sizes) (write i x vs (lengths k)) ≡ 0
   asked-of m h = ap (λ z. asked z (write i x vs (lengths k))) (sym (h .sizes-are)) ∙ passes
@@ -84,13 +104,12 @@ module _ (i x : ℕ) (vs : List ℕ) (k : Memory) (passes : asked (sizesOf (k .h
   unfolding accepted
   write-refused n given is =
       let low = from-four _ _ _ n (omega arith) (omega arith) (omega arith) given in
-      told-did (write i x vs) k (refused n) passes given (tt, tt)
+      told-did (write i x vs) k (refused n) passes (given, refl) (tt, tt)
       (λ m h. refused-if m i x vs (spanOutside m i x (length vs)) (spanShort m i x (length vs)) n (is m h) (omega arith))
 
   -- the memory after the touches, and the RAM after the stores
   module _ (k₁ : Memory) (ram : List ℕ)
       (touched : AllTouched i (x / sizesOf (k .head) .page) k (spanPages (sizesOf (k .head)) x (length vs)) k₁)
-      (index : k₁ .index ≡ k .index)
       (words : Words (length vs) (sizesOf (k .head) .frames * sizesOf (k .head) .page) (k .ram) ram)
       (settled : (m : State) → Holds m k → 0 ≡ spanRefusal m i x (length vs))
       (stores : (m₁ : State) → Holds m₁ k₁ → SpanMapped m₁ i x (length vs) → ram ≡ stored m₁ i x vs (k .ram)) where
@@ -104,7 +123,7 @@ module _ (i x : ℕ) (vs : List ℕ) (k : Memory) (passes : asked (sizesOf (k .h
         let a = write-admitted z i x vs (lengths k) (asked-of m h) in
         let f = fit z (a .sizes-ok) in
         let t = all-tables touched in
-        let h₁ = all-touched-holds m h (a .space) (span-pages-inside z f x n (a .fits))
+        let h₁ = all-touched-holds m h (every-long _ z (lengths k) (a .lent)) (a .space) (span-pages-inside z f x n (a .fits))
         (subst (λ y. AllTouched i (x / y .page) k (spanPages y x n) k₁) (h .sizes-are) touched) in
         let g = grown-all-touched m p q (h .sound) .sizes-same in
         let s = none-refused (spanOutside m i x (length vs)) (spanShort m i x (length vs)) (settled m h) in
@@ -114,28 +133,16 @@ module _ (i x : ℕ) (vs : List ℕ) (k : Memory) (passes : asked (sizesOf (k .h
         subst (IsMapped m₁) (b .2 ∙ ap (λ y. pageOfAddress y i (x + j)) (sym g))
         (span-mapped m p q (h .sound) (s .0) (ltb-false (length (m .pool)) (countAbsent m p q) (s .1)) (b .0) (b .1)) in
         let is : stored m₁ i x vs (m₁ .ram) ≡ ram = ap (stored m₁ i x vs) (sym (h₁ .ram-is) ∙ t .ram) ∙ sym (stores m₁ h₁ mapped) in
-        rw is (bytes-hold m₁ k₁ ram h₁ (words .few .size ∙ sym (ap length (t .ram))))
+        rw is (bytes-hold m₁ k₁ ram h₁)
 
     pub write-done : Did (write i x vs) k done (withBytes k₁ ram)
     unfolding accepted
     write-done =
-        let t = all-tables touched in
         record {
-          asks = rw passes tt;
+          asks = rw passes refl;
           stays = λ e. absurd (let z : _≡_ {A = ℕ} 0 1 = cc in omega arith);
-          bounds =
-              record {
-                sizes = t .sizes;
-                index = index;
-                count = t .count;
-                table = t .table;
-                helper = t .helper;
-                stack = t .stack;
-                cache = t .cache;
-                link = t .link;
-                ram = words;
-              };
-          honest = λ m h _.
+          bounds = record { maps = then-stored ram (all-maps touched .0); ram = words };
+          honest = λ m h.
               let s = none-refused (spanOutside m i x (length vs)) (spanShort m i x (length vs)) (settled m h) in
               let accepts : writeAt m i x vs ≡ writeIf m i x vs false false = rw (s .0, s .1) in
               let o = passed-step m (write i x vs (lengths k)) (asked-of m h) ∙ accepts in

@@ -36,6 +36,6 @@ course-follows m ram H (call {k = k} {k₁ = k₁} {e = e} {ts = ts} s c) =
       answers-alike = ap₂ _∷_ (ap blind (f .answer-is) ∙ a .answers) (r .answers-alike);
       state-alike = same ∙ r .state-alike ∙ ap (λ (x : State). withRam (afterAll m (calls (made (called e ∷ ts)))) (x .ram)) (sym same);
     }
-course-follows m ram H (fill {k = k} {ts = ts} ram₁ e c) =
-    let r = course-follows m ram₁ (bytes-hold (withRam m ram) k ram₁ H e) c in
+course-follows m ram H (fill {k = k} {ts = ts} ram₁ c) =
+    let r = course-follows m ram₁ (bytes-hold (withRam m ram) k ram₁ H) c in
     record { answers-are = r .answers-are; holds = r .holds; answers-alike = r .answers-alike; state-alike = r .state-alike }

@@ -3,7 +3,7 @@ use mathlib.Core.Path.{_≡_, refl, ap, ap₂, _∙_}
 use mathlib.Core.Bool.{false≢true}
 use mathlib.Core.List.{List, [], _∷_, _++_, map}
 use Prim.Native.Nat.{ℕ, zero, suc}
-use Rattle.machine.specs.Machine.{State, Call, facts, Kind, refusalOf, done, withRam, answers, after, afterAll}
+use Rattle.machine.specs.Machine.{Sizes, State, Call, facts, Kind, refusalOf, done, withRam, answers, after, afterAll}
 use Rattle.machine.specs.Claims.{isRefused}
 use Rattle.machine.specs.Laws.Calls.{is-refusal}
 use Rattle.memory.specs.Memory.{Memory}
@@ -30,9 +30,9 @@ pub run-split : {k k′ : Memory} (xs ys : List Event) → Run k (xs ++ ys) k′
 run-split {k} [] ys r = (k, none, r)
 run-split (x ∷ xs) ys (next s r) = let (k₁, before, later) = run-split xs ys r in (k₁, next s before, later)
 
-pub accepted-asks : (j : ℕ) (c : Call) → Exactly j c done → j ≡ 0
-accepted-asks zero c e = refl
-accepted-asks (suc j) c e = absurd (no-refusal (facts c .kind) (suc j) e)
+pub accepted-asks : (j : ℕ) (z : Sizes) (c : Call) → Exactly j z c done → j ≡ 0
+accepted-asks zero z c e = refl
+accepted-asks (suc j) z c e = absurd (no-refusal (facts c .kind) (suc j) e)
   where
     no-refusal : (d : Kind) (n : ℕ) → done ≡ refusalOf d n → ⊥
     no-refusal d n e = false≢true (ap isRefused e ∙ is-refusal d n)
@@ -43,7 +43,7 @@ begins-holding m k k′ b =
     let t = told k (b .first) k′ (b .step) in
     rw (b .step .after-is)
     (begun-holds k (b .first .lent) (b .first .answer) _ m (played (b .first)) (b .begins)
-    (accepted-asks _ (played (b .first)) (rw (b .accepted) at (t .asks))) t .1)
+    (accepted-asks _ _ (played (b .first)) (rw (b .accepted) at (t .asks))) t .1)
 
 pub sequence-follows : (m : State) (k k′ : Memory) (es : List Event) → Sequence m k es k′ → Followed (withRam m (k .ram)) es k′
 sequence-follows m k k′ es q = run-follows (withRam m (k .ram)) (begins-holding m k (q .started) (q .beginning)) (q .run)

@@ -9,7 +9,7 @@ use Rattle.laws.specs.Models.{checkOf}
 use Rattle.laws.specs.Spans.{spanInside, readLengths}
 use Rattle.reading.specs.Reading.{read-early, read-stopped, read-copied}
 use Rattle.lookup.specs.Ready.{Lookable}
-use Rattle.lookup.specs.Sights.{lookable}
+use Rattle.lookup.specs.Sights.{lookable, look-asked}
 use Rattle.spans.specs.Absent.{refused-as}
 use Rattle.reading.proofs.Checked.{page-fits, span-ready, span-is, pages-low, next-page}
 use Rattle.reading.proofs.Looking.{Looking, looking-none, looking-more}
@@ -95,7 +95,7 @@ returns-2 c = λ link.
     read-stopped _ _ (lent (entry (e .before)) link) _ _ (checked (e .before) link) (e .if1 .left) _ _ (o .before .before .page-of .ensures)
     (o .before .pages .ensures)
     _ (o .loop .inv .from) (omega (arith, l .before .loop-test .taken)) (o .loop .inv .resident link) (l .look-checked .result)
-    (l .look-checked .ensures .1 link _) _
+    (l .look-checked .ensures link _) _
     (refused-as (l .look-checked .result) _ (c .absence .ensures) (c .before .match .keys2))
 
 add-page : tie.Need-add-page Inv-loop μ-loop
@@ -109,8 +109,8 @@ loop-again c =
     let l = c .before .before in
     let o = l .before .before in
     let s = entry (passed o .before) in
-    looking-more (lent s) _ _ _ _ (o .loop .inv) (omega (arith, l .before .loop-test .taken)) (λ link. (span (passed o) .space, inside (l .before)))
-    (l .look-checked .result) _ (c .enum-told .given .1) (λ link. l .look-checked .ensures .1 link _)
+    looking-more (lent s) _ _ _ _ (o .loop .inv) (omega (arith, l .before .loop-test .taken)) (λ link. look-asked _ _ _ _ _ _ _ _ _ (pages (passed o) _ (inside (l .before))) link (s .args .ram .now))
+    (l .look-checked .result) _ (c .enum-told .given .1) (λ link. l .look-checked .ensures link _)
 
 copy-out-requires : tie.Need-copy-out-requires Inv-loop μ-loop
 copy-out-requires c κs = let e = passed (c .before .before) in (span e, pages e)

@@ -6,8 +6,8 @@ use Prim.Native.Nat.{ℕ}
 use native.Mathlib.Omega.{arith}
 use Rattle.memory.specs.Memory.{Memory, memory}
 use Rattle.spans.specs.Parts.{RamPlace}
-use Rattle.spans.specs.PartLaws.{part-address, part-small, part-ends, part-low, part-long}
-use Rattle.translating.specs.Located.{IsAt, located, nowhere}
+use Rattle.spans.specs.PartLaws.{part-small, part-ends, part-low, part-long}
+use Rattle.translating.specs.Located.{part-translatable, IsAt, located, nowhere}
 use Rattle.reading.proofs.Copies.{part-absent, part-copied}
 use borrow.Author.Needs.{needs}
 use Rattle.reading.proofs.read_part.Statement.{statement}
@@ -33,7 +33,7 @@ placed : (c : tie.After-known-told)
     (a .cache .now) (some q)
 placed c =
     let t = told c in
-    located _ _ _ _ _ _ _ _ _ (part-address _ _ _ _ _ (entry t .pre .0)) (t .translate-checked .result) (t .translate-checked .ensures) _
+    located _ _ _ _ _ _ _ _ _ (part-translatable _ _ _ _ _ _ _ _ _ _ _ (entry t .pre .0) (entry t .pre .1)) (t .translate-checked .result) (t .translate-checked .ensures) _
     (c .before .from .given .1)
 
 returns : tie.Need-returns
@@ -41,7 +41,7 @@ returns c = λ link.
     let t = c .before .before in
     let pre = entry t .pre .0 in
     part-absent (lent t link) _ _ _ pre
-    (nowhere _ _ _ _ _ _ _ _ _ (part-address _ _ _ _ _ pre) (t .translate-checked .result) (t .translate-checked .ensures) _ (c .enum-told .given .1) link _) _
+    (nowhere _ _ _ _ _ _ _ _ _ (part-translatable _ _ _ _ _ _ _ _ _ _ _ pre (entry t .pre .1)) (t .translate-checked .result) (t .translate-checked .ensures) _ (c .enum-told .given .1) link _) _
 
 add-to : tie.Need-add-to
 add-to c = omega (arith, part-low _ _ _ _ _ (entry (told c) .pre .0) _ (placed c .0))

@@ -12,8 +12,6 @@ returns c =
     let t = bytes .before in
     record {
       reply = t .serve .result .reply;
-      bytes′ = _;
-      records′ = _;
       bytes-long = bytes .bytes .given;
       records-long = records .records .given;
       serves = t .serve .ensures;

@@ -2,6 +2,7 @@
 use mathlib.Core.Path.{refl, sym, _∙_}
 use native.Mathlib.Omega.{arith}
 use lib.Seq.{length-take-le, length-front}
+use Rattle.printing.specs.Laws.{wrote-none}
 use Rattle.session.specs.Laws.{bad-answered, beyond-answered, short-answered, call-answered}
 use borrow.Author.Needs.{needs}
 use Rattle.session.proofs.answer_line.Statement.{statement}
@@ -9,21 +10,23 @@ use Rattle.session.proofs.answer_line.Tie as tie
 
 returns : tie.Need-returns
 returns c =
-    bad-answered _ _ _ _ _ _ _ _ _
-    (sym (c .before .before .before .before .before .before .parse .ensures) ∙ c .before .before .before .before .enum-told .given .1) refl
-    (c .before .before .say-bad-line .ensures)
+    bad-answered _ _ _ _ _ _ _ _ _ _ _
+    (sym (c .before .before .before .before .before .before .parse .ensures) ∙ c .before .before .before .before .enum-told .given .1)
+    (record { memory-stays = refl; buffer-stays = refl; records-stay = refl; wrote = c .before .before .say-bad-line .ensures })
 
 returns-2 : tie.Need-returns-2
 returns-2 c =
     let known = c .before .before .before .before .before .before .before .before .before in
-    beyond-answered _ _ _ _ _ _ _ _ _ _ _ (sym (known .before .before .parse .ensures) ∙ known .said .given .1)
-    (sym (c .before .before .before .before .before .before .before .is-beyond .ensures) ∙ c .before .before .before .before .before .before .if1 .taken) refl
-    (c .before .before .say .ensures)
+    beyond-answered _ _ _ _ _ _ _ _ _ _ _ _ _ (sym (known .before .before .parse .ensures) ∙ known .said .given .1)
+    (sym (c .before .before .before .before .before .before .before .is-beyond .ensures) ∙ c .before .before .before .before .before .before .if1 .taken)
+    (record { memory-stays = refl; buffer-stays = refl; records-stay = refl; wrote = c .before .before .say .ensures })
 
 returns-3 : tie.Need-returns-3
 returns-3 c =
     let known = c .before .before .before .before in
-    short-answered _ _ _ _ _ _ _ _ _ _ _ (sym (known .before .before .parse .ensures) ∙ known .said .given .1) (c .if2 .taken)
+    short-answered _ _ _ _ _ _ _ _ _ _ _ _ _ (sym (known .before .before .parse .ensures) ∙ known .said .given .1)
+    (sym (c .before .before .is-beyond .ensures) ∙ c .before .if1 .left) (c .if2 .taken)
+    (record { memory-stays = refl; buffer-stays = refl; records-stay = refl; wrote = wrote-none _ _ })
 
 slice-aggregate-answer-call : tie.Need-slice-aggregate-answer-call
 slice-aggregate-answer-call c =
@@ -58,9 +61,10 @@ returns-4 c =
     let f = filled t in
     let known = told f in
     let under = f .before .before .before .before in
-    call-answered _ _ _ _ _ _ _ _ _ _ _ _ (sym (known .before .before .parse .ensures) ∙ known .said .given .1)
-    (sym (under .before .is-beyond .ensures) ∙ under .if1 .left) (f .before .before .before .if2 .left) (f .buffer .given) (f .before .fill .ensures)
-    (t .answer-call .ensures)
+    call-answered _ _ _ _ _ _ _ _ _ _ _ _ _ (sym (known .before .before .parse .ensures) ∙ known .said .given .1)
+    (sym (under .before .is-beyond .ensures) ∙ under .if1 .left) (f .before .before .before .if2 .left)
+    (rw (← f .before .fill .ensures) (f .buffer .given))
+    (record { bytes′ = t .answer-call .last .1 .1 .1 .1 .0; answered = rw (← f .before .fill .ensures) (t .answer-call .ensures); buffer-is = rw (← f .before .fill .ensures) refl })
 
 pub answer-line-spec : {M : Type 1} → statement M
 answer-line-spec =

@@ -3,8 +3,8 @@ use mathlib.Core.Option.{some}
 use native.Mathlib.Omega.{arith}
 use borrow.Author.Needs.{needs}
 use Rattle.spans.specs.Parts.{RamPlace}
-use Rattle.spans.specs.PartLaws.{part-address, part-small, part-low, part-ends, part-long}
-use Rattle.translating.specs.Located.{IsAt, located, nowhere}
+use Rattle.spans.specs.PartLaws.{part-small, part-low, part-ends, part-long}
+use Rattle.translating.specs.Located.{part-translatable, IsAt, located, nowhere}
 use Rattle.storing.proofs.Storing.{part-refused, part-stored}
 use Rattle.storing.proofs.write_part.Statement.{statement}
 use Rattle.storing.proofs.write_part.Tie as tie
@@ -23,7 +23,7 @@ placed : (c : tie.After-known-told)
     (a .cache .now) (some q)
 placed c =
     let t = told c in
-    located _ _ _ _ _ _ _ _ _ (part-address _ _ _ _ _ (entry t .pre .0)) (t .translate-checked .result) (t .translate-checked .ensures) _
+    located _ _ _ _ _ _ _ _ _ (part-translatable _ _ _ _ _ _ _ _ _ _ _ (entry t .pre .0) (entry t .pre .1)) (t .translate-checked .result) (t .translate-checked .ensures) _
     (c .before .from .given .1)
 
 returns : tie.Need-returns
@@ -31,7 +31,7 @@ returns c =
     let t = c .before .before in
     let pre = entry t .pre .0 in
     part-refused _ _ _ _ _ _ _ _ _ _ _ pre
-    (nowhere _ _ _ _ _ _ _ _ _ (part-address _ _ _ _ _ pre) (t .translate-checked .result) (t .translate-checked .ensures) _ (c .enum-told .given .1))
+    (nowhere _ _ _ _ _ _ _ _ _ (part-translatable _ _ _ _ _ _ _ _ _ _ _ pre (entry t .pre .1)) (t .translate-checked .result) (t .translate-checked .ensures) _ (c .enum-told .given .1))
 
 add-to : tie.Need-add-to
 add-to c = omega (arith, part-low _ _ _ _ _ (entry (told c) .pre .0) _ (placed c .0))

@@ -40,7 +40,7 @@ looked-up c =
       in-span = t .loop-test .taken;
       ready = page-ready t;
       found = c .before .look-checked .result;
-      looks = c .before .look-checked .ensures .1;
+      looks = c .before .look-checked .ensures;
       no-is = c .absence .ensures;
     }
 

@@ -1,14 +1,12 @@
 -- The page's look, and what it found.
-use mathlib.Core.Path.{subst}
 use mathlib.Core.List.{List, []}
 use Prim.Native.Nat.{ℕ, _<_}
 use native.Mathlib.Omega.{arith}
 use borrow.Author.Needs.{needs}
 use Rattle.machine.specs.Laws.Sizes.{fit}
 use Rattle.memory.specs.Memory.{Memory, memory}
-use Rattle.lookup.specs.Ready.{Framed}
 use Rattle.spans.specs.Absent.{refused-as}
-use Rattle.translating.specs.Translating.{page-inside, translate-refused, translate-at}
+use Rattle.translating.specs.Translating.{page-inside, frame-below, translate-refused, translate-at}
 use Rattle.translating.proofs.translate_checked.Statement.{statement}
 use Rattle.translating.proofs.translate_checked.Tie as tie
 
@@ -36,7 +34,7 @@ returns c =
     let p = l .before in (
       tt,
       λ link ram.
-          translate-refused _ _ (lent p link ram) (entry p .pre) _ (p .page-of .ensures) (l .look-checked .result) (l .look-checked .ensures .1 link ram) _
+          translate-refused _ _ (lent p link ram) (entry p .pre) _ (p .page-of .ensures) (l .look-checked .result) (l .look-checked .ensures link ram) _
           (refused-as (l .look-checked .result) _ (c .absence .ensures) (c .before .match .keys2)),
     )
 
@@ -45,9 +43,13 @@ returns-2 c =
     let l = c .before .before .before .before in
     let p = l .before in
     let is = c .before .before .found .given .1 in (
-      record { frame = _; below = subst (Framed (entry p .args .head)) is (l .look-checked .ensures .0); is = c .ram-place .ensures },
+      record {
+        frame = _;
+        below = frame-below _ _ (lent p [] []) (entry p .pre) _ (p .page-of .ensures) (l .look-checked .result) (l .look-checked .ensures [] []) _ is;
+        is = c .ram-place .ensures;
+      },
       λ link ram.
-          translate-at _ _ (lent p link ram) (entry p .pre) _ (p .page-of .ensures) (l .look-checked .result) (l .look-checked .ensures .1 link ram) _ _ is
+          translate-at _ _ (lent p link ram) (entry p .pre) _ (p .page-of .ensures) (l .look-checked .result) (l .look-checked .ensures link ram) _ _ is
           (c .ram-place .ensures),
     )
 

@@ -83,7 +83,7 @@ returns-2 c =
     let r = c .before .before .before .before .before .before .before .before .before .before in
     let s = span (resided r) in
     let all = r .all-resident .ensures .yes (c .before .before .before .before .before .before .before .before .before .if2 .taken) in
-    written s (resident-stay s all) (resident-decided s all) refl refl (c .before .before .store .ensures)
+    written s (resident-stay s all) (resident-decided s all) refl (c .before .before .store .ensures)
 
 survey-requires : tie.Need-survey-requires
 survey-requires c κs = let s = span
@@ -109,7 +109,7 @@ returns-4 : tie.Need-returns-4
 returns-4 c =
     let t = touched (c .before .before .before) in
     let p = paged (accepted t .before) in
-    written (span p) (t .touch-all .ensures (entry (checked p) .args .ram .now)) (decision (accepted t .before)) (accepted t .if3 .left) refl
+    written (span p) (t .touch-all .ensures (entry (checked p) .args .ram .now)) (decision (accepted t .before)) (accepted t .if3 .left)
     (c .before .before .store2 .ensures)
 
 pub write-spec : {M : Type 1} → statement M

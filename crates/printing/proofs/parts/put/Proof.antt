@@ -6,7 +6,8 @@ use native.Mathlib.Omega.{arith}
 use lib.ListN.{length, take}
 use lib.Seq.{take-length}
 use Rattle.printing.specs.Writing.{Wrote}
-use Rattle.printing.proofs.Written.{wrote-none, wrote-next, take-more}
+use Rattle.printing.specs.Laws.{wrote-none}
+use Rattle.printing.proofs.Written.{wrote-next, take-more}
 use Rattle.printing.proofs.parts.put.Statement.{statement}
 use Rattle.printing.proofs.parts.put.Tie as tie
 

@@ -7,7 +7,8 @@ use lib.ListN.{length, take, length-set}
 use lib.Seq.{take-length}
 use Rattle.printing.specs.Text.{hexText}
 use Rattle.printing.specs.Writing.{Wrote}
-use Rattle.printing.proofs.Written.{wrote-none, wrote-next, hex-more}
+use Rattle.printing.specs.Laws.{wrote-none}
+use Rattle.printing.proofs.Written.{wrote-next, hex-more}
 use Rattle.printing.proofs.parts.put_hex.Statement.{statement}
 use Rattle.printing.proofs.parts.put_hex.Tie as tie
 

@@ -6,7 +6,8 @@ use lib.ListN.{length, take}
 use lib.Seq.{take-length}
 use Rattle.printing.specs.Text.{numbersText, blank}
 use Rattle.printing.specs.Writing.{Wrote}
-use Rattle.printing.proofs.Written.{wrote-none, wrote-more, numbers-more}
+use Rattle.printing.specs.Laws.{wrote-none}
+use Rattle.printing.proofs.Written.{wrote-more, numbers-more}
 use Rattle.printing.proofs.parts.put_numbers.Statement.{statement}
 use Rattle.printing.proofs.parts.put_numbers.Tie as tie
 

@@ -1,0 +1,105 @@
+-- What a call that kept its promise left as long as it was, on any memory, and the sizes of one that begins nothing.
+use mathlib.Core.Path.{_≡_, refl, ap}
+use mathlib.Core.Option.{none}
+use Prim.Native.Nat.{ℕ}
+use native.Mathlib.Omega.{arith}
+use lib.ListN.{length}
+use Rattle.machine.specs.Machine.{Sizes, Lent, Call, start, page, free, translate, read, write, list, facts, Effect, unchanged, prepared, startPut, pageMapped}
+use Rattle.machine.specs.Machine.{regionEmptied, spanStored, asked, Answer}
+use Rattle.machine.specs.declared.PageCall.the-variants.{Mark, Drop, Touch, Look, Release}
+use Rattle.memory.specs.Memory.{Memory, sizesOf, lengths}
+use Rattle.promise.specs.Did.{BoundsBy, Did}
+use Rattle.laws.specs.Refusals.{PreparesNothing}
+
+lengths-by : (e : Effect) (n : ℕ) (k k′ : Memory) → BoundsBy e n k k′ → lengths k′ ≡ lengths k
+lengths-by unchanged n k k′ b = ap lengths b
+lengths-by (prepared z) n k k′ b = λ j.
+    record {
+      index = b .index-length j;
+      count = b .count-length j;
+      table = length (b .table j);
+      helper = length (b .helper j);
+      stack = length (b .stack j);
+      cache = length (b .cache j);
+      link = length (b .link j);
+      ram = length (b .ram j);
+    }
+lengths-by (startPut i p) n k k′ b =
+    let w = b .words in
+    λ j.
+    record {
+      index = w .index .few .size j;
+      count = w .count .few .size j;
+      table = w .table .few .size j;
+      helper = w .helper .few .size j;
+      stack = w .stack .few .size j;
+      cache = w .cache .few .size j;
+      link = w .link .few .size j;
+      ram = length (w .ram j);
+    }
+lengths-by (pageMapped i p) n k k′ (w, ram) = λ j.
+    record {
+      index = length (w .index j);
+      count = w .count .few .size j;
+      table = w .table .few .size j;
+      helper = w .helper .few .size j;
+      stack = w .stack .few .size j;
+      cache = w .cache .few .size j;
+      link = w .link .few .size j;
+      ram = length (ram j);
+    }
+lengths-by (regionEmptied i p) n k k′ w = λ j.
+    record {
+      index = w .index .few .size j;
+      count = w .count .few .size j;
+      table = w .table .few .size j;
+      helper = w .helper .few .size j;
+      stack = w .stack .few .size j;
+      cache = w .cache .few .size j;
+      link = w .link .few .size j;
+      ram = length (w .ram j);
+    }
+lengths-by (spanStored i x vs) n k k′ b =
+    let w = b .maps in
+    λ j.
+    record {
+      index = length (w .index j);
+      count = w .count .few .size j;
+      table = w .table .few .size j;
+      helper = w .helper .few .size j;
+      stack = w .stack .few .size j;
+      cache = w .cache .few .size j;
+      link = w .link .few .size j;
+      ram = b .ram .few .size j;
+    }
+
+pub lengths-stay : (c : Lent → Call) (k : Memory) (a : Answer) (k′ : Memory) → Did c k a k′ → lengths k′ ≡ lengths k
+lengths-stay c k a k′ d = lengths-by (facts (c (lengths k)) .change) _ k k′ (d .bounds)
+
+-- ---- sizes
+
+sizes-by : (e : Effect) (n : ℕ) (k k′ : Memory) → PreparesNothing e → BoundsBy e n k k′ → sizesOf (k′ .head) ≡ sizesOf (k .head)
+sizes-by unchanged n k k′ p b = ap (λ (x : Memory). sizesOf (x .head)) b
+sizes-by (prepared z) n k k′ p b = absurd p
+sizes-by (startPut i q) n k k′ p b = b .words .sizes
+sizes-by (pageMapped i q) n k k′ p b = b .0 .sizes
+sizes-by (regionEmptied i q) n k k′ p b = b .sizes
+sizes-by (spanStored i x vs) n k k′ p b = b .maps .sizes
+
+-- only what begins a state prepares one
+prepares-nothing : (c : Call) → facts c .begins ≡ none → PreparesNothing (facts c .change)
+prepares-nothing (start z l) e = absurd (let x : _≡_ {A = ℕ} 0 1 = cc in omega arith)
+prepares-nothing (page Mark i b l) e = tt
+prepares-nothing (page Drop i b l) e = tt
+prepares-nothing (page Touch i b l) e = tt
+prepares-nothing (page Look i b l) e = tt
+prepares-nothing (page Release i b l) e = tt
+prepares-nothing free e = tt
+prepares-nothing (translate i x l) e = tt
+prepares-nothing (read i x n l) e = tt
+prepares-nothing (write i x vs l) e = tt
+prepares-nothing (list i room l) e = tt
+
+pub sizes-stay : (c : Lent → Call) (k : Memory) (a : Answer) (k′ : Memory) → facts (c (lengths k)) .begins ≡ none → Did c k a k′
+    → sizesOf (k′ .head) ≡ sizesOf (k .head)
+sizes-stay c k a k′ e d = sizes-by (facts (c (lengths k)) .change) _ k k′ (prepares-nothing (c (lengths k)) e) (d .bounds)
