@@ -5,10 +5,9 @@ use mathlib.Core.List.{List, [], _∷_, map}
 use Prim.Native.Nat.{ℕ}
 use Rattle.machine.specs.Machine.{State, translate, withRam, Answer, at, answer, after, answers, afterAll}
 use Rattle.machine.specs.Claims.{blind, Same}
-use Rattle.memory.specs.Memory.{Memory}
+use Rattle.memory.specs.Memory.{Memory, withBytes}
 use Rattle.promise.specs.Holds.{Holds}
 use Rattle.promise.specs.Did.{Did}
-use Rattle.laws.specs.Bytes.{withBytes}
 use Rattle.demands.specs.History.{Event, played, calls, Step, Beginning}
 
 -- a call; or a write from outside, after which the RAM holds these bytes

@@ -4,11 +4,8 @@ use mathlib.Core.List.{List}
 use Prim.Native.Nat.{ℕ}
 use Rattle.machine.specs.Machine.{State, withRam}
 use Rattle.machine.specs.Laws.Kept.{sound-stored}
-use Rattle.memory.specs.Memory.{Memory, memory}
+use Rattle.memory.specs.Memory.{Memory, withBytes}
 use Rattle.promise.specs.Holds.{Holds}
-
-abbrev pub withBytes : Memory → List ℕ → Memory
-withBytes k ram = memory (k .head) (k .index) (k .count) (k .table) (k .helper) (k .stack) (k .cache) (k .link) ram
 
 pub bytes-hold : (m : State) (k : Memory) (ram : List ℕ) → Holds m k → Holds (withRam m ram) (withBytes k ram)
 bytes-hold m k ram h =

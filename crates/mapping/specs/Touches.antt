@@ -4,8 +4,7 @@ use mathlib.Core.List.{List}
 use Prim.Native.Nat.{ℕ, zero, suc, _+_, _*_, _≤_, _<_}
 use native.Mathlib.Nat.{add-zero, add-suc, suc-add, add-assoc}
 use native.Mathlib.Omega.{arith}
-use Rattle.sequence.specs.Lists.{Changed}
-use Rattle.sequence.specs.Changes.{changed-zero, changed-then}
+use Rattle.sequence.specs.Changes.{changed-then}
 use Rattle.machine.specs.declared.PageCall.the-variants.{Touch}
 use Rattle.machine.specs.Machine.{Sizes, placeOf, State, pageFacts, touch, touchAt, touchAll, Answer, accepted, after}
 use Rattle.machine.specs.Laws.Stays.{grown-all-touched}
@@ -13,6 +12,7 @@ use Rattle.memory.specs.Memory.{Memory, sizesOf, lengths}
 use Rattle.promise.specs.Holds.{Holds}
 use Rattle.promise.specs.Shown.{Shown}
 use Rattle.promise.specs.Did.{Words, Tables, Maps, Did}
+use Rattle.promise.specs.Refuses.{words-same}
 use Rattle.laws.specs.Refusals.{Long, words-none, maps-none, passed-step}
 use Rattle.laws.specs.Lengths.{lengths-stay}
 use Rattle.laws.specs.Passing.{page-passes}
@@ -22,9 +22,6 @@ use Rattle.laws.specs.Spans.{AllTouched, none-touched, one-touched}
 
 words-then : {a b n : ℕ} {ws vs us : List ℕ} → Words a n ws vs → Words b n vs us → Words (a + b) n ws us
 words-then w v = record { few = changed-then (w .few) (v .few); excess = v .excess ∙ w .excess }
-
-words-same : {a n : ℕ} {ws vs : List ℕ} → a ≡ 0 → Words a n ws vs → vs ≡ ws
-words-same {n = n} {ws = ws} {vs = vs} e w = changed-zero (subst (λ (a : ℕ). Changed a ws vs) e (w .few))
 
 -- where nothing was mapped, each page is shown as before
 still-shown : {z : Sizes} {i b n : ℕ} {k k₁ : Memory} → (t : Maps z i b n k k₁) → t .mapped ≡ 0 → (j c : ℕ) → Shown k j c → Shown k₁ j c

@@ -12,7 +12,7 @@ use Rattle.machine.specs.Machine.{Sizes, State, begun, spanPages, Lent, Call, s
 use Rattle.machine.specs.Machine.{Kind, ended, touched, looked, released, counted, translated, copied, listed, refusalOf, Answer, done, old, new, resident}
 use Rattle.machine.specs.Machine.{absent, pages, frames, at, bytes, regions, refused, refusedAfter, Effect, unchanged, prepared, startPut, pageMapped}
 use Rattle.machine.specs.Machine.{regionEmptied, spanStored}
-use Rattle.memory.specs.Memory.{Memory, memory, sizesOf, lengths}
+use Rattle.memory.specs.Memory.{Memory, memory, withBytes, sizesOf, lengths}
 use Rattle.promise.specs.Holds.{Holds}
 use Rattle.promise.specs.Shown.{Shown, AllShown}
 use Rattle.promise.specs.Did.{Among, Later, Exactly, still, Words, framesLeft, Maps, BoundsBy, Did}
@@ -24,9 +24,6 @@ check c k = asked (sizesOf (k .head)) (c (lengths k))
 -- of the RAM, the bytes past the frames
 abbrev beyond : Memory → List ℕ → List ℕ
 beyond k ram = dropped (sizesOf (k .head) .frames * sizesOf (k .head) .page) ram
-
-abbrev withBytes : Memory → List ℕ → Memory
-withBytes k ram = memory (k .head) (k .index) (k .count) (k .table) (k .helper) (k .stack) (k .cache) (k .link) ram
 
 -- ---- the answer
 
@@ -90,19 +87,19 @@ within (regionEmptied i b) k k′ = memory (k′ .head) (k .index) (k′ .count)
 within (spanStored i x vs) k k′ = memory (k′ .head) (k .index) (k′ .count) (k′ .table) (k′ .helper) (k′ .stack) (k′ .cache) (k′ .link) (k′ .ram)
 
 -- 0 words that changed are none
-same : {n t : ℕ} {ws ws′ : List ℕ} → n ≡ 0 → Words n t ws ws′ → ws′ ≡ ws
-same {n} {t} {ws} {ws′} e w = changed-zero (subst (λ m. Changed m ws ws′) e (w .few))
+pub words-same : {n t : ℕ} {ws ws′ : List ℕ} → n ≡ 0 → Words n t ws ws′ → ws′ ≡ ws
+words-same {n} {t} {ws} {ws′} e w = changed-zero (subst (λ m. Changed m ws ws′) e (w .few))
 
 within-by : (e : Effect) (n : ℕ) (k k′ : Memory) → BoundsBy e n k k′ → k′ ≡ within e k k′
 within-by unchanged n k k′ b = b
 within-by (prepared z) n k k′ b = λ j. memory (k′ .head) (k′ .index) (k′ .count) (b .table j) (b .helper j) (b .stack j) (b .cache j) (b .link j) (b .ram j)
 within-by (startPut i p) n k k′ b = let w = b .words in let e = refl in λ j.
-    memory (b .head j) (k′ .index) (same e (w .count) j) (same e (w .table) j) (same e (w .helper) j) (same e (w .stack) j) (same e (w .cache) j)
-    (same e (w .link) j) (w .ram j)
+    memory (b .head j) (k′ .index) (words-same e (w .count) j) (words-same e (w .table) j) (words-same e (w .helper) j) (words-same e (w .stack) j) (words-same e (w .cache) j)
+    (words-same e (w .link) j) (w .ram j)
 within-by (pageMapped i p) n k k′ b = λ j.
     memory (k′ .head) (b .0 .index j) (k′ .count) (k′ .table) (k′ .helper) (k′ .stack) (k′ .cache) (k′ .link) (b .1 j)
 within-by (regionEmptied i p) n k k′ b = let e = refl in λ j.
-    memory (k′ .head) (same e (b .index) j) (k′ .count) (same e (b .table) j) (same e (b .helper) j) (same e (b .stack) j) (same e (b .cache) j) (k′ .link)
+    memory (k′ .head) (words-same e (b .index) j) (k′ .count) (words-same e (b .table) j) (words-same e (b .helper) j) (words-same e (b .stack) j) (words-same e (b .cache) j) (k′ .link)
     (b .ram j)
 within-by (spanStored i x vs) n k k′ b = λ j.
     memory (k′ .head) (b .maps .index j) (k′ .count) (k′ .table) (k′ .helper) (k′ .stack) (k′ .cache) (k′ .link) (k′ .ram)
@@ -110,8 +107,8 @@ within-by (spanStored i x vs) n k k′ b = λ j.
 -- where no page is mapped only the RAM changes
 only-ram : (z : Sizes) (i b n : ℕ) (k k′ : Memory) (w : Maps z i b n k k′) → w .mapped ≡ 0 → k′ ≡ withBytes k (k′ .ram)
 only-ram z i b n k k′ w e = λ j.
-    memory (w .none e j) (w .index j) (same e (w .count) j) (same e (w .table) j) (same e (w .helper) j) (same e (w .stack) j) (same e (w .cache) j)
-    (same e (w .link) j) (k′ .ram)
+    memory (w .none e j) (w .index j) (words-same e (w .count) j) (words-same e (w .table) j) (words-same e (w .helper) j) (words-same e (w .stack) j) (words-same e (w .cache) j)
+    (words-same e (w .link) j) (k′ .ram)
 
 -- ---- any call
 
@@ -199,4 +196,4 @@ module _ (i x : ℕ) (k : Memory) (a : Answer) (k′ : Memory) where
   pub write-empty : Did (write i x []) k a k′ → k′ ≡ k
   write-empty d =
       let w = d .bounds .maps in
-      only-ram _ i _ _ k k′ w (omega (arith, w .few)) ∙ ap (withBytes k) (same refl (d .bounds .ram))
+      only-ram _ i _ _ k k′ w (omega (arith, w .few)) ∙ ap (withBytes k) (words-same refl (d .bounds .ram))

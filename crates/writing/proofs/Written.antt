@@ -10,13 +10,12 @@ use lib.Dec.{ltb}
 use lib.ListN.{length}
 use Rattle.machine.specs.Machine.{Sizes, sizesOk, spaceBytes, placeOf, spanPages, State, anyOutside, countAbsent, write, asked, done, refused}
 use Rattle.machine.specs.Laws.Sizes.{fit}
-use Rattle.memory.specs.Memory.{Memory, sizesOf, lengths}
+use Rattle.memory.specs.Memory.{Memory, withBytes, sizesOf, lengths}
 use Rattle.promise.specs.Holds.{Holds}
 use Rattle.promise.specs.Did.{Among, Words, Did}
 use Rattle.laws.specs.Models.{checkOf}
 use Rattle.laws.specs.Spans.{spanInside, writeLengths, AllTouched}
 use Rattle.laws.specs.SpanChecks.{write-check}
-use Rattle.laws.specs.Bytes.{withBytes}
 use Rattle.lookup.specs.Ready.{Lookable}
 use Rattle.lookup.specs.Sights.{lookable, still-ready}
 use Rattle.touching.specs.Fits.{Touchable}

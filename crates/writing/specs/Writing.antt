@@ -14,10 +14,10 @@ use Rattle.machine.specs.Machine.{countAbsent, stored, storeAll, spanTouched, s
 use Rattle.machine.specs.Laws.Sizes.{both, Fit, fit, some-bytes, passed, page-below}
 use Rattle.machine.specs.Laws.Bytes.{in-pages}
 use Rattle.machine.specs.Laws.Stays.{IsMapped, grown-all-touched, span-mapped}
-use Rattle.memory.specs.Memory.{Memory, sizesOf, lengths}
+use Rattle.memory.specs.Memory.{Memory, withBytes, sizesOf, lengths}
 use Rattle.promise.specs.Holds.{Holds}
 use Rattle.promise.specs.Did.{Among, Words, Maps, Did}
-use Rattle.laws.specs.Bytes.{withBytes, bytes-hold}
+use Rattle.laws.specs.Bytes.{bytes-hold}
 use Rattle.laws.specs.Spans.{AllTouched}
 use Rattle.laws.specs.Refusals.{Long, long, passed-step}
 use Rattle.laws.specs.Passing.{every-long}
