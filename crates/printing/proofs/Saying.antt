@@ -1,18 +1,39 @@
--- What is said with room and without.
-use mathlib.Core.Path.{_≡_, refl}
+-- The text of the records in a buffer, and what is said with room and without.
+use mathlib.Core.Path.{_≡_, refl, sym, ap, _∙_}
 use mathlib.Core.Bool.{Bool, true, false, cond}
-use mathlib.Core.List.{List, []}
-use Prim.Native.Nat.{ℕ, _+_, _≤_, _<_}
+use mathlib.Core.List.{List, [], _++_}
+use Prim.Native.Nat.{ℕ, _+_, _*_, _≤_, _<_}
 use native.Mathlib.Omega.{arith}
 use borrow.Author.Tests.{leb-true}
 use lib.Dec.{leb}
-use lib.ListN.{length}
+use lib.ListN.{length, take, drop}
+use lib.Seq.{take-at}
 use Rattle.machine.specs.Laws.Sizes.{both}
-use Rattle.requests.specs.Requests.{replied}
+use Rattle.promise.specs.Filled.{recordsIn}
+use Rattle.requests.specs.Requests.{regionNumbers, replied}
+use Rattle.requests.specs.Laws.{records-length, numbers-length, records-numbers}
 use Rattle.requests.specs.declared.Reply.{Reply}
+use Rattle.requests.specs.declared.Reply.the-variants as reply-is
+use Rattle.texts.specs.Text.{decimal, regionsWord, numbersText}
+use Rattle.texts.specs.Writing.{Wrote}
+use Rattle.texts.specs.Laws.{wrote-none}
 use Rattle.printing.specs.Text.{text}
-use Rattle.printing.specs.Writing.{Wrote, shown, roomy, saidText, Says}
-use Rattle.printing.specs.Laws.{wrote-none, said-whole}
+use Rattle.printing.specs.Writing.{shown, roomy, saidText, Says}
+use Rattle.printing.specs.Laws.{said-whole}
+
+-- ---- records
+
+records-are : (n : ℕ) (ws : List ℕ) → 3 * n ≤ length ws → regionNumbers (recordsIn n ws) ≡ take (3 * n) ws
+records-are n ws h =
+    let e = records-numbers n ws h in
+    let l = numbers-length (recordsIn n ws) ∙ ap (λ (k : ℕ). 3 * k) (records-length n ws) in
+    sym (take-at _ (drop (3 * n) ws) (3 * n) l) ∙ ap (take (3 * n)) e
+
+pub regions-text : (n : ℕ) (bytes ws : List ℕ) → 3 * n ≤ length ws
+    → text (replied (reply-is.Regions n) bytes ws) ≡ regionsWord ++ (decimal n ++ numbersText (take (3 * n) ws))
+regions-text n bytes ws h = rw (records-length n ws, records-are n ws h)
+
+-- ---- with room and without
 
 module _ (at : ℕ) (out : List ℕ) (r : Reply) (bytes records : List ℕ) where
   -- nothing is said where the four tests can't all hold

@@ -1,20 +1,14 @@
--- What it is to write text into a buffer after what stands there already.
-use mathlib.Core.Path.{_≡_}
+-- What it is to say a reply: its text in a buffer, where there is room for it.
 use mathlib.Core.Bool.{Bool, cond, _&&_}
-use mathlib.Core.List.{List, [], _++_}
+use mathlib.Core.List.{List, []}
 use Prim.Native.Nat.{ℕ, _+_, _*_}
 use lib.Dec.{leb}
-use lib.ListN.{length, take, drop}
+use lib.ListN.{length}
 use Rattle.requests.specs.Requests.{replied}
 use Rattle.requests.specs.declared.Reply.{Reply}
 use Rattle.requests.specs.declared.Reply.the-variants as reply-is
+use Rattle.texts.specs.Writing.{Wrote}
 use Rattle.printing.specs.Text.{text}
-
--- the text stands after the first `at` bytes and ends at `end`; nothing else is written
-pub record Wrote (at : ℕ) (out cs : List ℕ) (end : ℕ) (out′ : List ℕ) : Type 0 where
-  pub long : length out′ ≡ length out
-  pub end-is : end ≡ at + length cs
-  pub out-is : out′ ≡ take at out ++ (cs ++ drop (at + length cs) out)
 
 -- how many numbers of the records a reply shows
 abbrev pub shown : Reply → ℕ

@@ -13,8 +13,9 @@ use Rattle.requests.specs.declared.Reply.the-variants as reply-is
 use Rattle.parsing.specs.Grammar.{parsed}
 use Rattle.parsing.specs.declared.Line.{Line}
 use Rattle.parsing.specs.declared.Line.the-variants.{Call, Bad}
-use Rattle.printing.specs.Text.{badLine}
-use Rattle.printing.specs.Writing.{Wrote, saidText}
+use Rattle.texts.specs.Text.{badLine}
+use Rattle.texts.specs.Writing.{Wrote}
+use Rattle.printing.specs.Writing.{saidText}
 use Rattle.session.specs.Session.{beyond, answered}
 use Rattle.session.specs.Filling.{filledBy, CallAnswered}
 

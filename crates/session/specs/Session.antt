@@ -11,7 +11,8 @@ use Rattle.fields.specs.Fields.{bytesIn, hexOf}
 use Rattle.parsing.specs.Grammar.{parsed}
 use Rattle.parsing.specs.declared.Line.{Line}
 use Rattle.parsing.specs.declared.Line.the-variants.{Call, Bad}
-use Rattle.printing.specs.Text.{badLine, text}
+use Rattle.texts.specs.Text.{badLine}
+use Rattle.printing.specs.Text.{text}
 
 -- "Its sizes are further limited to T at most 1,024 and F x P at most 32,768"
 abbrev pub beyond : Request → Bool

@@ -8,10 +8,10 @@ use lib.ListN.{length}
 use lib.Seq.{length-take-le}
 use Rattle.requests.specs.Requests.{replied}
 use Rattle.requests.specs.declared.Reply.{Reply}
+use Rattle.texts.specs.Writing.{Wrote}
 use Rattle.printing.specs.Text.{text}
-use Rattle.printing.specs.Writing.{Wrote, shown, Says}
-use Rattle.printing.proofs.Written.{wrote-more, regions-text}
-use Rattle.printing.proofs.Saying.{short-out, many-bytes, many-records, records-lack, said}
+use Rattle.printing.specs.Writing.{shown, Says}
+use Rattle.printing.proofs.Saying.{regions-text, short-out, many-bytes, many-records, records-lack, said}
 use Rattle.printing.proofs.say.Statement.{statement}
 use Rattle.printing.proofs.say.Tie as tie
 
@@ -56,41 +56,38 @@ returns-7 c =
 
 returns-8 : tie.Need-returns-8
 returns-8 c =
-    let t = c .before .before .before .before .before .before .before in
-    let told = t .before .before .before .before in
-    roomed (told .before .before) _ (told .reply .given .1) (omega arith) (wrote-more (t .put-pair .ensures .0) (c .before .before .put2 .ensures))
+    let t = c .before .before .before .before .before in
+    roomed (t .before .before) _ (t .reply .given .1) (omega arith) (c .before .before .put-old .ensures)
 
 returns-9 : tie.Need-returns-9
 returns-9 c =
-    let t = c .before .before .before .before .before .before .before in
-    let told = t .before .before .before .before in
-    roomed (told .before .before) _ (told .reply2 .given .1) (omega arith) (wrote-more (t .put-pair2 .ensures .0) (c .before .before .put-pair3 .ensures .0))
+    let t = c .before .before .before .before .before in
+    roomed (t .before .before) _ (t .reply2 .given .1) (omega arith) (c .before .before .put-new .ensures)
 
 returns-10 : tie.Need-returns-10
 returns-10 c =
-    let t = c .before .before .before .before .before .before .before in
-    let told = t .before .before .before .before in
-    roomed (told .before .before) _ (told .reply3 .given .1) (omega arith) (wrote-more (t .put-pair4 .ensures .0) (c .before .before .put3 .ensures))
+    let t = c .before .before .before .before .before in
+    roomed (t .before .before) _ (t .reply3 .given .1) (omega arith) (c .before .before .put-resident .ensures)
 
 returns-11 : tie.Need-returns-11
 returns-11 c =
     let t = c .before .before .before .before .before .before in
-    roomed (t .before .before) _ (t .reply4 .given .1) (omega arith) (c .before .before .put-pair5 .ensures .0)
+    roomed (t .before .before) _ (t .reply4 .given .1) (omega arith) (c .before .before .put-pair .ensures .0)
 
 returns-12 : tie.Need-returns-12
 returns-12 c =
     let t = c .before .before .before .before .before .before in
-    roomed (t .before .before) _ (t .reply5 .given .1) (omega arith) (c .before .before .put-pair6 .ensures .0)
+    roomed (t .before .before) _ (t .reply5 .given .1) (omega arith) (c .before .before .put-pair2 .ensures .0)
 
 returns-13 : tie.Need-returns-13
 returns-13 c =
     let t = c .before .before .before .before .before .before in
-    roomed (t .before .before) _ (t .reply6 .given .1) (omega arith) (c .before .before .put-pair7 .ensures .0)
+    roomed (t .before .before) _ (t .reply6 .given .1) (omega arith) (c .before .before .put-pair3 .ensures .0)
 
 returns-14 : tie.Need-returns-14
 returns-14 c =
     let t = c .before .before .before .before .before .before in
-    roomed (t .before .before) _ (t .reply7 .given .1) (omega arith) (c .before .before .put-pair8 .ensures .0)
+    roomed (t .before .before) _ (t .reply7 .given .1) (omega arith) (c .before .before .put-pair4 .ensures .0)
 
 returns-15 : tie.Need-returns-15
 returns-15 c =
@@ -109,7 +106,7 @@ returns-16 c =
 returns-17 : tie.Need-returns-17
 returns-17 c =
     let t = c .before .before .before .before .before .before in
-    roomed (t .before .before) _ (t .reply9 .given .1) (omega arith) (c .before .before .put-pair9 .ensures .0)
+    roomed (t .before .before) _ (t .reply9 .given .1) (omega arith) (c .before .before .put-pair5 .ensures .0)
 
 returns-18 : tie.Need-returns-18
 returns-18 c =
@@ -121,13 +118,11 @@ say-spec =
     tie.close
     (tie.spec
     returns (λ c. search needs) returns-2 returns-3 returns-4 (λ c. search needs) (λ c. search needs) (λ c κs. search needs) (λ c. search needs)
-    (λ c. search needs) (λ c. search needs) (λ c κs. search needs) (λ c. search needs) (λ c κs. search needs) (λ c. search needs) (λ c. search needs)
-    (λ c. search needs) (λ c κs. search needs) (λ c. search needs) (λ c. search needs) (λ c κs. search needs) (λ c. search needs) (λ c. search needs)
-    (λ c. search needs) (λ c κs. search needs) (λ c. search needs) (λ c κs. search needs) (λ c. search needs) (λ c. search needs) (λ c. search needs)
-    (λ c κs. search needs) (λ c. search needs) (λ c. search needs) (λ c. search needs) (λ c κs. search needs) (λ c. search needs) (λ c. search needs)
-    (λ c. search needs) (λ c κs. search needs) (λ c. search needs) (λ c. search needs) (λ c κs. search needs) (λ c. search needs)
-    (λ c κs. search needs) (λ c. search needs) returns-5 (λ c. search needs) (λ c. search needs) returns-6 slice-aggregate-put-regions
-    put-regions-requires (λ c. search needs) (λ c. search needs) (λ c. search needs) (λ c κs. search needs) (λ c. search needs) (λ c κs. search needs)
-    (λ c. search needs) returns-7 (λ c. search needs) returns-8 (λ c. search needs) returns-9 (λ c. search needs) returns-10 (λ c. search needs)
-    returns-11 (λ c. search needs) returns-12 (λ c. search needs) returns-13 (λ c. search needs) returns-14 (λ c. search needs) returns-15
-    (λ c. search needs) returns-16 (λ c. search needs) returns-17 (λ c. search needs) returns-18)
+    (λ c κs. search needs) (λ c. search needs) (λ c κs. search needs) (λ c. search needs) (λ c κs. search needs) (λ c. search needs)
+    (λ c. search needs) (λ c. search needs) (λ c κs. search needs) (λ c. search needs) (λ c. search needs) (λ c. search needs) (λ c κs. search needs)
+    (λ c. search needs) (λ c. search needs) (λ c. search needs) (λ c κs. search needs) (λ c. search needs) (λ c. search needs) (λ c κs. search needs)
+    (λ c. search needs) (λ c κs. search needs) (λ c. search needs) returns-5 (λ c. search needs) (λ c. search needs) returns-6
+    slice-aggregate-put-regions put-regions-requires (λ c. search needs) (λ c. search needs) (λ c. search needs) (λ c κs. search needs)
+    (λ c. search needs) (λ c κs. search needs) (λ c. search needs) returns-7 (λ c. search needs) returns-8 (λ c. search needs) returns-9
+    (λ c. search needs) returns-10 (λ c. search needs) returns-11 (λ c. search needs) returns-12 (λ c. search needs) returns-13 (λ c. search needs)
+    returns-14 (λ c. search needs) returns-15 (λ c. search needs) returns-16 (λ c. search needs) returns-17 (λ c. search needs) returns-18)

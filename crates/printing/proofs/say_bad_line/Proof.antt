@@ -4,7 +4,7 @@ use native.Mathlib.Omega.{arith}
 use borrow.Author.Needs.{needs}
 use borrow.Author.Tests.{le-leb, lt-leb}
 use lib.ListN.{length}
-use Rattle.printing.specs.Laws.{wrote-none}
+use Rattle.texts.specs.Laws.{wrote-none}
 use Rattle.printing.proofs.say_bad_line.Statement.{statement}
 use Rattle.printing.proofs.say_bad_line.Tie as tie
 

@@ -1,8 +1,8 @@
 -- One text, then the other.
 use borrow.Author.Needs.{needs}
-use Rattle.printing.proofs.Written.{wrote-more}
-use Rattle.printing.proofs.put_regions.Statement.{statement}
-use Rattle.printing.proofs.put_regions.Tie as tie
+use Rattle.texts.specs.Laws.{wrote-more}
+use Rattle.texts.proofs.put_regions.Statement.{statement}
+use Rattle.texts.proofs.put_regions.Tie as tie
 
 returns : tie.Need-returns
 returns c = wrote-more (c .before .before .before .before .before .before .put-pair .ensures .0) (c .before .before .put-numbers .ensures)

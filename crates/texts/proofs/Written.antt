@@ -1,35 +1,19 @@
--- Laws of writing after what stands in a buffer, and of an answer's parts.
-use mathlib.Core.Path.{_≡_, refl, sym, ap, _∙_}
+-- One store more, one byte or number more, bytes or none, and the digits of a number.
+use mathlib.Core.Path.{_≡_, refl, sym, ap}
 use mathlib.Core.List.{List, [], _∷_, _++_, append-assoc, append-nil}
-use Prim.Native.Nat.{ℕ, zero, suc, _+_, _-_, _*_, _/_, _%_, _^_, _≤_, _<_}
-use native.Mathlib.Nat.{add-zero, mod-eq-of-lt, pow-suc, pow-le-pow-right, lt-of-not-le}
+use Prim.Native.Nat.{ℕ, zero, suc, _+_, _-_, _/_, _%_, _^_, _≤_, _<_}
+use native.Mathlib.Nat.{mod-eq-of-lt, pow-suc, pow-le-pow-right, lt-of-not-le}
 use native.Mathlib.Numerals.{add-one, unary-clauses}
 use native.Mathlib.Omega.{arith}
 use borrow.Author.Tests.{lt-ltb, le-ltb}
-use lib.ListN.{length, take, drop, set, getD, length-append, length-set}
-use lib.Seq.{take-suc, take-at, drop-drop, set-split}
+use lib.ListN.{length, take, set, getD, length-set}
+use lib.Seq.{take-suc, set-split}
 use Rattle.io.specs.Digits.{glyph, digits, Fewest}
-use Rattle.promise.specs.Filled.{recordsIn}
-use Rattle.requests.specs.Requests.{regionNumbers, replied}
-use Rattle.requests.specs.Laws.{records-length, numbers-length, records-numbers}
-use Rattle.requests.specs.declared.Reply.the-variants as reply-is
-use Rattle.printing.specs.Text.{decimal, decimalWith, hexText, bytesText, numbersText, regionsWord, blank, text}
-use Rattle.printing.specs.Writing.{Wrote}
-use Rattle.printing.specs.Laws.{wrote-front, wrote-back}
+use Rattle.texts.specs.Text.{decimal, decimalWith, hexText, bytesText, numbersText, blank}
+use Rattle.texts.specs.Writing.{Wrote}
+use Rattle.texts.specs.Laws.{wrote-more}
 
 -- ---- writing
-
--- one text, then another
-pub wrote-more : {at e e₂ : ℕ} {out xs out₁ ys out₂ : List ℕ} → Wrote at out xs e out₁ → Wrote e out₁ ys e₂ out₂ → Wrote at out (xs ++ ys) e₂ out₂
-wrote-more {at} {e} {e₂} {out} {xs} {out₁} {ys} {out₂} a b =
-    let place : at + length (xs ++ ys) ≡ e + length ys = rw length-append (omega (arith, a .end-is)) in
-    let rest : drop (e + length ys) out₁ ≡ drop (e + length ys) out =
-    sym (drop-drop (length ys) e out₁) ∙ ap (drop (length ys)) (wrote-back a) ∙ drop-drop (length ys) e out in
-    record {
-      long = b .long ∙ a .long;
-      end-is = rw place (b .end-is);
-      out-is = b .out-is ∙ rw (wrote-front a, rest, place) (simp append-assoc);
-    }
 
 -- one store
 wrote-one : (at c : ℕ) (out : List ℕ) → at < length out → Wrote at out (c ∷ []) (at + 1) (set out at c)
@@ -111,15 +95,3 @@ few-digits n k h f =
     let b = f .2 (omega arith) in
     let p : 10 ^ 20 ≤ 10 ^ (k - 1) = pow-le-pow-right (omega arith) {i = 20} {j = k - 1} (omega arith) in
     omega arith)
-
--- ---- records
-
-records-are : (n : ℕ) (ws : List ℕ) → 3 * n ≤ length ws → regionNumbers (recordsIn n ws) ≡ take (3 * n) ws
-records-are n ws h =
-    let e = records-numbers n ws h in
-    let l = numbers-length (recordsIn n ws) ∙ ap (λ (k : ℕ). 3 * k) (records-length n ws) in
-    sym (take-at _ (drop (3 * n) ws) (3 * n) l) ∙ ap (take (3 * n)) e
-
-pub regions-text : (n : ℕ) (bytes ws : List ℕ) → 3 * n ≤ length ws
-    → text (replied (reply-is.Regions n) bytes ws) ≡ regionsWord ++ (decimal n ++ numbersText (take (3 * n) ws))
-regions-text n bytes ws h = rw (records-length n ws, records-are n ws h)

@@ -1,9 +1,9 @@
 -- The digits of io, put as a word.
 use native.Mathlib.Omega.{arith}
 use borrow.Author.Needs.{needs}
-use Rattle.printing.proofs.Written.{decimal-is, few-digits}
-use Rattle.printing.proofs.parts.put_number.Statement.{statement}
-use Rattle.printing.proofs.parts.put_number.Tie as tie
+use Rattle.texts.proofs.Written.{decimal-is, few-digits}
+use Rattle.texts.proofs.put_number.Statement.{statement}
+use Rattle.texts.proofs.put_number.Tie as tie
 
 put-requires : tie.Need-put-requires
 put-requires c κs =

@@ -1,8 +1,9 @@
 -- With bytes or without.
 use borrow.Author.Needs.{needs}
-use Rattle.printing.proofs.Written.{wrote-more, bytes-none, bytes-some}
-use Rattle.printing.proofs.put_bytes.Statement.{statement}
-use Rattle.printing.proofs.put_bytes.Tie as tie
+use Rattle.texts.specs.Laws.{wrote-more}
+use Rattle.texts.proofs.Written.{bytes-none, bytes-some}
+use Rattle.texts.proofs.put_bytes.Statement.{statement}
+use Rattle.texts.proofs.put_bytes.Tie as tie
 
 returns : tie.Need-returns
 returns c = rw (bytes-none _ (c .if1 .taken)) (c .before .before .before .put .ensures)

@@ -4,12 +4,12 @@ use Prim.Native.Nat.{_+_, _-_, _*_, _≤_}
 use native.Mathlib.Omega.{arith}
 use lib.ListN.{length, take}
 use lib.Seq.{take-length}
-use Rattle.printing.specs.Text.{numbersText, blank}
-use Rattle.printing.specs.Writing.{Wrote}
-use Rattle.printing.specs.Laws.{wrote-none}
-use Rattle.printing.proofs.Written.{wrote-more, numbers-more}
-use Rattle.printing.proofs.parts.put_numbers.Statement.{statement}
-use Rattle.printing.proofs.parts.put_numbers.Tie as tie
+use Rattle.texts.specs.Text.{numbersText, blank}
+use Rattle.texts.specs.Writing.{Wrote}
+use Rattle.texts.specs.Laws.{wrote-none, wrote-more}
+use Rattle.texts.proofs.Written.{numbers-more}
+use Rattle.texts.proofs.put_numbers.Statement.{statement}
+use Rattle.texts.proofs.put_numbers.Tie as tie
 
 abbrev Inv-loop : tie.InvT-loop
 Inv-loop out₀ at numbers n next₀ i₀ t7 out next i =

@@ -1,0 +1,143 @@
+// Text written into a lent buffer after what stands there already: words, numbers, bytes in hex, and the
+// answers that are made of more than a word and a number.
+ghost use mathlib.Core.Path.{_≡_};
+ghost use mathlib.Core.List.{_++_};
+ghost use Prim.Native.Nat.{_+_, _*_, _≤_};
+ghost use lib.ListN.{length};
+ghost use Rattle.io.specs.Digits.{glyph};
+ghost use Rattle.texts.specs.Text.{decimal, hexText, bytesText, numbersText, blank};
+ghost use Rattle.texts.specs.Text.{frameWord, oldWord, newWord, residentWord, noWords, bytesWord, regionsWord, noWord};
+ghost use Rattle.texts.specs.Writing.{Wrote};
+
+// A word.
+pub fn put(out: &mut [u8], at: usize, word: &[u8]) -> usize
+    requires { ⌜ at + length (now word) ≤ length (now out) ⌝ }
+    ensures { λ r. ⌜ Wrote at (now (out .entry)) (now (word .entry)) r (now (out .exit)) ⌝ }
+{
+    let n = word.len();
+    let mut i = 0;
+    while i < n {
+        out[at + i] = word[i];
+        i += 1;
+    }
+    at + n
+}
+
+// A number in decimal, at most 20 digits.
+pub fn put_number(out: &mut [u8], at: usize, n: u64) -> usize
+    requires { ⌜ at + 20 ≤ length (now out) ⌝ }
+    ensures { λ r. ⌜ Wrote at (now (out .entry)) (decimal n) r (now (out .exit)) ⌝ }
+    ensures { λ r. ⌜ r ≤ at + 20 ⌝ }
+{
+    let mut digits = [0u8; 20];
+    let k = io::decimal(n, &mut digits);
+    put(out, at, &digits[..k])
+}
+
+// A hex digit of a number below 16.
+fn glyph_of(d: u8) -> u8
+    requires { ⌜ d ≤ 15 ⌝ }
+    ensures { λ r. ⌜ r ≡ glyph d ⌝ }
+{
+    if d < 10 { 48 + d } else { 87 + d }
+}
+
+// Bytes, two hex digits each.
+pub fn put_hex(out: &mut [u8], at: usize, bytes: &[u8]) -> usize
+    requires { ⌜ at + 2 * length (now bytes) ≤ length (now out) ⌝ }
+    ensures { λ r. ⌜ Wrote at (now (out .entry)) (hexText (now (bytes .entry))) r (now (out .exit)) ⌝ }
+{
+    let n = bytes.len();
+    let mut i = 0;
+    while i < n {
+        let b = bytes[i];
+        out[at + 2 * i] = glyph_of(b / 16);
+        out[at + 2 * i + 1] = glyph_of(b % 16);
+        i += 1;
+    }
+    at + 2 * n
+}
+
+// Numbers, each after a blank.
+pub fn put_numbers(out: &mut [u8], at: usize, numbers: &[u32]) -> usize
+    requires { ⌜ at + 21 * length (now numbers) ≤ length (now out) ⌝ }
+    ensures { λ r. ⌜ Wrote at (now (out .entry)) (numbersText (now (numbers .entry))) r (now (out .exit)) ⌝ }
+{
+    let n = numbers.len();
+    let mut next = at;
+    let mut i = 0;
+    while i < n {
+        next = put(out, next, b" ");
+        next = put_number(out, next, numbers[i] as u64);
+        i += 1;
+    }
+    next
+}
+
+// A word, then a number.
+pub fn put_pair(out: &mut [u8], at: usize, word: &[u8], n: u64) -> usize
+    requires { ⌜ at + length (now word) + 20 ≤ length (now out) ⌝ }
+    ensures { λ r. ⌜ Wrote at (now (out .entry)) (now (word .entry) ++ decimal n) r (now (out .exit)) ⌝ }
+    ensures { λ r. ⌜ r ≤ at + length (now (word .entry)) + 20 ⌝ }
+{
+    let next = put(out, at, word);
+    put_number(out, next, n)
+}
+
+// A frame that is mapped already.
+pub fn put_old(out: &mut [u8], at: usize, f: u32) -> usize
+    requires { ⌜ at + 64 ≤ length (now out) ⌝ }
+    ensures { λ r. ⌜ Wrote at (now (out .entry)) (frameWord ++ (decimal f ++ oldWord)) r (now (out .exit)) ⌝ }
+{
+    let next = put_pair(out, at, b"frame ", f as u64);
+    put(out, next, b" old 0")
+}
+
+// A frame taken from the pool, with the index words.
+pub fn put_new(out: &mut [u8], at: usize, f: u32, w: u32) -> usize
+    requires { ⌜ at + 64 ≤ length (now out) ⌝ }
+    ensures { λ r. ⌜ Wrote at (now (out .entry)) (frameWord ++ (decimal f ++ (newWord ++ decimal w))) r (now (out .exit)) ⌝ }
+{
+    let next = put_pair(out, at, b"frame ", f as u64);
+    put_pair(out, next, b" new ", w as u64)
+}
+
+// A resident page's frame.
+pub fn put_resident(out: &mut [u8], at: usize, f: u32) -> usize
+    requires { ⌜ at + 64 ≤ length (now out) ⌝ }
+    ensures { λ r. ⌜ Wrote at (now (out .entry)) (residentWord ++ (decimal f ++ noWords)) r (now (out .exit)) ⌝ }
+{
+    let next = put_pair(out, at, b"resident ", f as u64);
+    put(out, next, b" 0")
+}
+
+// What a read gave.
+pub fn put_bytes(out: &mut [u8], at: usize, bytes: &[u8]) -> usize
+    requires { ⌜ (at + 1024 ≤ length (now out)) × (length (now bytes) ≤ 256) ⌝ }
+    ensures { λ r. ⌜ Wrote at (now (out .entry)) (bytesWord ++ bytesText (now (bytes .entry))) r (now (out .exit)) ⌝ }
+{
+    let next = put(out, at, b"bytes");
+    if bytes.len() == 0 {
+        return next;
+    }
+    let next = put(out, next, b" ");
+    put_hex(out, next, bytes)
+}
+
+// The regions' number, and their records.
+pub fn put_regions(out: &mut [u8], at: usize, n: u32, numbers: &[u32]) -> usize
+    requires { ⌜ (at + 65536 ≤ length (now out)) × (length (now numbers) ≤ 3072) ⌝ }
+    ensures { λ r. ⌜ Wrote at (now (out .entry)) (regionsWord ++ (decimal n ++ numbersText (now (numbers .entry)))) r (now (out .exit)) ⌝ }
+{
+    let next = put_pair(out, at, b"regions ", n as u64);
+    put_numbers(out, next, numbers)
+}
+
+// A refusal of touch or look, with its index words.
+pub fn put_refusal(out: &mut [u8], at: usize, k: u32, w: u32) -> usize
+    requires { ⌜ at + 64 ≤ length (now out) ⌝ }
+    ensures { λ r. ⌜ Wrote at (now (out .entry)) (noWord ++ (decimal k ++ (blank ++ decimal w))) r (now (out .exit)) ⌝ }
+{
+    let next = put_pair(out, at, b"no ", k as u64);
+    put_pair(out, next, b" ", w as u64)
+}
