@@ -36,7 +36,7 @@ pub fn start(
         (doneSays r)
         (memory (now (head .exit)) (now (index .exit)) (now (count .exit)) table helper stack cache link ram)) ⌝ }
 {
-    let out = marking::start(*head, spaces, pages, frames, page, index, count);
+    let out = starting::start(*head, spaces, pages, frames, page, index, count);
     *head = out.head;
     out.answer
 }

@@ -14,7 +14,8 @@ use Rattle.index.specs.declared.Membership.{Membership}
 use Rattle.index.specs.declared.Membership.the-variants.{Member, Absent, Refused}
 use Rattle.machine.specs.Machine.{Answer, refused}
 use Rattle.memory.specs.Memory.{Memory, at}
-use Rattle.marking.specs.Models.{changeSays, withIndex, PutsUnless, AsksStart, MarkIf, DropIf}
+use Rattle.starting.specs.Models.{changeSays}
+use Rattle.marking.specs.Models.{withIndex, PutsUnless, AsksStart, MarkIf, DropIf}
 use Rattle.marking.specs.Steps.{CutPages, Around, MarkedAt, DroppedAt}
 
 -- ---- the region that a start would cut

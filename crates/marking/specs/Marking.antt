@@ -1,18 +1,15 @@
--- Mark, drop and start keep the promise.
-use mathlib.Core.Path.{_≡_, refl, sym, ap, ap₂, _∙_, subst, fun-ext}
+-- Mark and drop keep the promise.
+use mathlib.Core.Path.{_≡_, refl, sym, ap, _∙_, subst}
 use mathlib.Core.Logic.{inl, inr}
-use mathlib.Core.Bool.{Bool, true, false, cond, _&&_, false≢true, and-false}
+use mathlib.Core.Bool.{Bool, true, false, cond, false≢true}
 use mathlib.Core.List.{List, [], _∷_, _++_}
 use mathlib.Core.Option.{Option, none, some}
-use Prim.Native.Nat.{ℕ, zero, suc, _+_, _^_, _≤_, _<_}
-use native.Mathlib.Nat.{not-suc-le-zero, zero-add}
+use Prim.Native.Nat.{ℕ, zero, suc, _+_, _<_}
 use native.Mathlib.Decide.{ℕ-discrete}
 use native.Mathlib.Omega.{arith}
-use borrow.Author.Tests.{lt-ltb}
-use lib.Dec.{leb, ltb}
-use lib.ListN.{length, drop as dropped, replicate, length-append, length-drop, length-replicate, List·getD-append}
+use lib.Dec.{leb}
+use lib.ListN.{length, drop as dropped}
 use lib.Seq.{getD-set-same, getD-set-other}
-use Rattle.sequence.specs.Lists.{tabulate, getD-same}
 use Rattle.places.specs.Places.{put, lastBelow, size}
 use Rattle.places.specs.Laws.{below-last}
 use Rattle.places.specs.Sets.{put-here, put-other}
@@ -22,28 +19,26 @@ use Rattle.index.specs.declared.Change.the-variants as change-is
 use Rattle.index.specs.declared.Membership.{Membership}
 use Rattle.index.specs.declared.Membership.the-variants as membership-is
 use Rattle.index.specs.declared.Found.{Found}
-use Rattle.index.specs.Words.{indexOf, bitAt}
+use Rattle.index.specs.Words.{bitAt}
 use Rattle.index.specs.Promise.{Put, Sought}
-use Rattle.index.specs.Laws.{length-index, index-front, index-bit, index-ext}
-use Rattle.machine.specs.Machine.{Sizes, sizes, places, placeOf, isPageSize, sizesOk, firstOf, State, Pair, isStart, region, startOf, notBelow, wordsAt, Lent}
-use Rattle.machine.specs.Machine.{Uses, uses, Call, start, mark, drop, facts, asked, Answer, done, refused, tell, begun, withStart, unlessResident, markCut}
+use Rattle.index.specs.Laws.{index-front, index-bit, index-ext}
+use Rattle.machine.specs.Machine.{Sizes, places, placeOf, State, Pair, isStart, region, startOf, notBelow, wordsAt, Lent}
+use Rattle.machine.specs.Machine.{Uses, uses, Call, mark, drop, facts, asked, Answer, done, refused, tell, withStart, unlessResident, markCut}
 use Rattle.machine.specs.Machine.{markAt, dropAt, accepted, step, answer, after, ended}
 use Rattle.machine.specs.declared.PageCall.the-variants.{Mark, Drop}
-use Rattle.machine.specs.Answers.{size as size-is, no-size, pageSizeFor}
 use Rattle.machine.specs.Claims.{Sound}
 use Rattle.machine.specs.Laws.Sizes.{fit}
 use Rattle.machine.specs.Laws.Regions.{own-marked, own-dropped}
-use Rattle.machine.specs.Laws.Kept.{sound-begun, sound-marked, sound-dropped}
-use Rattle.memory.specs.Memory.{Memory, memory, at, sizesOf, lengths}
+use Rattle.machine.specs.Laws.Kept.{sound-marked, sound-dropped}
+use Rattle.memory.specs.Memory.{Memory, at, sizesOf, lengths}
 use Rattle.promise.specs.Holds.{Holds}
 use Rattle.promise.specs.Did.{Later, Marks, Bounds, Did}
-use Rattle.laws.specs.Models.{checkOf, Refuses, markLengths}
-use Rattle.marking.specs.Models.{cutCount, countIn, withIndex, changeSays, Puts, PutsUnless, MarkIf, DropIf, AsksStart, MarkDone, DropDone, startHead}
-use Rattle.marking.specs.Models.{Starts, StartIf, StartDone}
-use Rattle.laws.specs.Refusals.{words-none, MayKeep, begins-none, passed-step, early-did, kept-did, checked-did, Admitted, admitted, start-admitted}
-use Rattle.laws.specs.Refusals.{check-size-passes, check-passes}
+use Rattle.laws.specs.Models.{Refuses, markLengths}
+use Rattle.marking.specs.Models.{cutCount, countIn, withIndex, Puts, PutsUnless, MarkIf, DropIf, AsksStart, MarkDone, DropDone}
+use Rattle.starting.specs.Models.{changeSays}
+use Rattle.laws.specs.Refusals.{words-none, MayKeep, begins-none, passed-step, kept-did, checked-did, Admitted, admitted, check-passes}
 use Rattle.laws.specs.Finds.{index-passes, sought-is, start-is}
-use Rattle.laws.specs.Checks.{page-check, same-lent}
+use Rattle.laws.specs.Checks.{page-check}
 
 -- ---- a start put in the index
 
@@ -307,121 +302,3 @@ module _ (i b : ℕ) (k : Memory) where
                 does = drops true is m h;
                 spares = drop-spares m p (h .sound) inside;
               })
-
--- ---- start
-
--- sizes that pass have a space 0
-space-zero : (z : Sizes) (o : Bool) → firstOf (sizesOk z && o) (ltb 0 (z .spaces)) true ≡ firstOf (sizesOk z && o) true true
-space-zero z o = go (sizesOk z) refl
-  where
-    go : (b : Bool) → sizesOk z ≡ b → firstOf (b && o) (ltb 0 (z .spaces)) true ≡ firstOf (b && o) true true
-    go true e = rw (lt-ltb 0 (z .spaces) (fit z e .some-spaces))
-    go false e = refl
-
--- whatever the head before it
-pub start-check : (k : Memory) (s n f shift : ℕ)
-    → checkOf (startHead s n f shift) (markLengths k) 0 true ≡ asked (sizesOf (k .head)) (start (sizesOf (startHead s n f shift)) (lengths k))
-unfolding checkOf asked
-start-check k s n f shift =
-    let z = sizesOf (startHead s n f shift) in
-    space-zero z _ ∙ ap (λ o. firstOf o true true) (same-lent z (uses (start z (lengths k))) (lengths k))
-
-front-long : (n : ℕ) (front rest : List ℕ) → length front ≡ n → n ≤ length (front ++ rest)
-front-long n front rest e = omega (arith, length-append front rest)
-
--- in place of as many words at the front
-front-same : (n : ℕ) (front ws : List ℕ) → length front ≡ n → n ≤ length ws → length (front ++ dropped n ws) ≡ length ws
-front-same n front ws e l = omega (arith, length-append front (dropped n ws), length-drop n ws)
-
-module _ (s n f shift : ℕ) (k : Memory) where
-  abbrev given : Sizes
-  given = sizesOf (startHead s n f shift)
-
-  -- the memory that an accepted start leaves
-  abbrev prepared : Memory
-  prepared =
-      let t = places given in
-      memory (startHead s n f shift) (indexOf t (λ _. false) ++ dropped (size t) (k .index)) (replicate t 0 ++ dropped t (k .count))
-      (k .table) (k .helper) (k .stack) (k .cache) (k .link) (k .ram)
-
-  none-held : (a : ℕ) → region (begun given (k .ram)) a ≡ []
-  none-held a = getD-same (places given) a []
-
-  begun-holds : sizesOk given ≡ true → Holds (begun given (k .ram)) prepared
-  begun-holds ok =
-      let t = places given in
-      record {
-        sound = sound-begun given (k .ram) ok;
-        sizes-are = refl;
-        index-long = front-long (size t) (indexOf t (λ _. false)) _ (length-index t _);
-        count-long = front-long t (replicate t 0) _ (length-replicate t 0);
-        index-is =
-            index-front t (isStart (begun given (k .ram))) _ _
-            (ap (λ xs. xs ++ dropped (size t) (k .index)) (index-ext t _ _ (λ q _. sym (getD-same t q false))));
-        counts = λ p l.
-            List·getD-append (replicate t 0) _ 0 p (rw (length-replicate {A = ℕ} t 0) l) ∙ getD-same t p 0 ∙ sym (ap length (none-held p));
-        entries = λ a j l. absurd (not-suc-le-zero (rw (none-held a) at l));
-        links = λ a. rw (none-held a) (record { from = 0; to = 0; chain = refl });
-        pooled = record {
-          linked = [];
-          stop = 0;
-          many-is = refl;
-          chain = refl;
-          fresh-fits = omega arith;
-          pool-is = ap₂ tabulate (fun-ext (λ j. sym (zero-add j))) (omega arith);
-        };
-        ram-is = refl;
-      }
-
-  start-then : asked (sizesOf (k .head)) (start given (lengths k)) ≡ 0 → (a : Answer) (k′ : Memory) → Starts (startHead s n f shift) k a k′
-      → Did (start given) k a k′
-  unfolding accepted
-  start-then pass a k′ d =
-      let w = start-admitted (sizesOf (k .head)) given (lengths k) pass in
-      let t = places given in
-      let checked = check-size-passes given (w .sizes-ok) (length (k .index)) (w .lent .index refl) in
-      let done-is : a ≡ done = d .answer-is ∙ ap changeSays (d .prepared .answer ∙ ap (λ n. index.unless change-is.Refused n change-is.Done) checked) in
-      let after-is : k′ ≡ prepared =
-      d .after-is
-      ∙ ap (λ ws. memory (startHead s n f shift) ws (replicate t 0 ++ dropped t (k .count)) (k .table) (k .helper) (k .stack) (k .cache) (k .link) (k .ram))
-      (d .prepared .cleared checked) in
-      rw (done-is, after-is)
-      (record {
-        asks = rw pass refl;
-        stays = λ e. absurd (false≢true e);
-        bounds = record {
-          index-length = front-same (size t) (indexOf t (λ _. false)) (k .index) (length-index t _) (w .lent .index refl);
-          count-length = front-same t (replicate t 0) (k .count) (length-replicate t 0) (w .lent .count refl);
-          table = refl;
-          helper = refl;
-          stack = refl;
-          cache = refl;
-          link = refl;
-          ram = refl;
-          accepted = λ _. record { sizes = refl; first = refl; many = refl; fresh = refl; index = refl; count = refl };
-        };
-        honest = λ m h.
-            let o = passed-step m (start given (lengths k)) (subst (λ z. asked z (start given (lengths k)) ≡ 0) (h .sizes-are) pass) in
-            record {
-              answer-is = sym (ap (λ r. r .answer) o);
-              holds =
-                  subst (λ r. Holds (r .after) prepared) (sym o)
-                  (subst (λ ram. Holds (begun given ram) prepared) (h .ram-is) (begun-holds (w .sizes-ok)));
-            };
-        begins = λ _. (refl, begun-holds (w .sizes-ok));
-      })
-
-no-page-size : (z₀ z : Sizes) (l : Lent) → isPageSize (z .page) ≡ false → asked z₀ (start z l) ≡ 1
-unfolding asked sizesOk
-no-page-size z₀ z l e = rw (e, and-false)
-
-pub start-did : (s n f p : ℕ) (k : Memory) (a : Answer) (k′ : Memory) → StartDone s n f p k a k′
-    → Did (start (sizes s n f p)) k a k′
-unfolding pageSizeFor
-start-did s n f p k a k′ d = go (isPageSize p) refl d
-  where
-    go : (t : Bool) → isPageSize p ≡ t → StartIf (cond t (size-is p) (no-size 1)) s n f k a k′ → Did (start (sizes s n f p)) k a k′
-    go false e d = rw (d .answer-is, d .same) (early-did (start (sizes s n f p)) k 0 (no-page-size (sizesOf (k .head)) (sizes s n f p) (lengths k) e))
-    go true e (shift, is, d) =
-        subst (λ p. Did (start (sizes s n f p)) k a k′) is
-        (checked-did (start (sizes s n f (2 ^ shift))) k _ (start-check k s n f shift) _ a k′ d (λ pass r. start-then s n f shift k pass a k′ r))

@@ -1,30 +1,15 @@
--- What the steps of start, mark and drop promise each other, in the terms of the calls' models.
+-- What the steps of mark and drop promise each other, in the terms of the calls' models.
 use mathlib.Core.Path.{_≡_}
-use mathlib.Core.Bool.{true}
 use mathlib.Core.List.{List}
 use Prim.Native.Nat.{ℕ, _≤_, _<_}
 use lib.ListN.{length}
 use Rattle.index.specs.Answers as index
 use Rattle.index.specs.Promise.{Sought}
 use Rattle.index.specs.declared.Found.{Found}
-use Rattle.machine.specs.Machine.{places, sizesOk, Answer}
+use Rattle.machine.specs.Machine.{places, Answer}
 use Rattle.memory.specs.Memory.{Memory, memory, sizesOf}
 use Rattle.memory.specs.declared.Head.{Head}
-use Rattle.marking.specs.Models.{cutCount, withIndex, AsksStart, MarkIf, DropIf, Starts}
-
--- ---- start
-
-pub record Beginnable (h : Head) (count : List ℕ) : Type 0 where
-  pub sizes-ok : sizesOk (sizesOf h) ≡ true
-  pub count-long : places (sizesOf h) ≤ length count
-
--- whatever head and tables were there before
-abbrev pub BeginsAs : Head → List ℕ → List ℕ → Head → Answer → List ℕ → List ℕ → Type 0
-BeginsAs next ws count h′ a ws′ count′ =
-    (h : Head) (table helper stack cache link ram : List ℕ)
-    → Starts next (memory h ws count table helper stack cache link ram) a (memory h′ ws′ count′ table helper stack cache link ram)
-
--- ---- mark and drop
+use Rattle.marking.specs.Models.{cutCount, withIndex, AsksStart, MarkIf, DropIf}
 
 -- place p of t, where the index and the counts are long enough
 pub record Searchable (t p : ℕ) (ws count : List ℕ) : Type 0 where

@@ -2,7 +2,7 @@
 // None asks anything of its caller; 1 to 3 are refused on any memory, 9 only on memory that no call left so.
 
 // Begins anew with these sizes, no starts and every frame in the pool: Ok. Refused: 1.
-pub use marking::start;
+pub use starting::start;
 // Adds a start: Ok. Refused: 1, 2, 3; 6, the page is a start already; 7, the region that it cuts has resident pages; 9.
 pub use marking::mark;
 // Removes a start: Ok. Refused: 1, 2, 3; 5, the page is no start; 7, its region has resident pages; 9.

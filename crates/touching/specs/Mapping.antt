@@ -1,30 +1,28 @@
--- On honest memory a page that isn't mapped has room and a frame, and storing its words keeps memory and machine together.
+-- On honest memory storing the words of a new page keeps memory and machine together.
 use mathlib.Core.Path.{_≡_, refl, sym, ap, _∙_, subst}
 use mathlib.Core.Logic.{_≢_}
-use mathlib.Core.Bool.{true}
-use mathlib.Core.Option.{some, Option·some-injective}
+use mathlib.Core.Option.{Option·some-injective}
 use mathlib.Core.List.{List, [], _∷_, _++_}
 use Prim.Native.Nat.{ℕ, zero, suc, _+_, _<_}
 use native.Mathlib.Decide.{ℕ-discrete}
 use native.Mathlib.Omega.{arith}
-use borrow.Author.Tests.{lt-ltb}
 use lib.ListN.{length, getD, length-set, length-append, List·getD-append}
 use lib.Seq.{getD-set-same, getD-set-other, getD-append-seam}
 use Rattle.machine.specs.declared.PageCall.the-variants.{Touch}
 use Rattle.machine.specs.Machine.{places, State, Pair, region, startOf, pageOf, unmapped, withPair, pageFacts}
 use Rattle.machine.specs.Claims.{noPair}
-use Rattle.machine.specs.Laws.Regions.{owner-of}
 use Rattle.machine.specs.Laws.Lookup.{Unmapped, is-unmapped, not-in}
 use Rattle.machine.specs.Laws.Kept.{sound-paired}
 use Rattle.machine.specs.Laws.Stays.{held-inside}
 use Rattle.memory.specs.Memory.{Memory, at, sizesOf, lengths}
 use Rattle.memory.specs.declared.Head.{Head}
 use Rattle.promise.specs.Holds.{Placed, Holds}
-use Rattle.touching.specs.Models.{topOk, fitOk, mapPage}
-use Rattle.pool.specs.Models.{nextOk, newestOf, takenFrom, taken}
+use Rattle.planning.specs.Fitting.{NextWord, next-word}
+use Rattle.touching.specs.Models.{mapPage}
+use Rattle.pool.specs.Models.{newestOf, takenFrom, taken}
 use Rattle.pool.specs.Pool.{taken-honest, pooled-taken, linked-paired, newest-honest}
 use Rattle.laws.specs.Refusals.{Long}
-use Rattle.laws.specs.Room.{owned-below, stack-room}
+use Rattle.laws.specs.Room.{stack-room}
 
 -- a frame taken changes no size
 pub sizes-taken : (link : List ℕ) (h : Head) (n : ℕ) → sizesOf (takenFrom link h n .head) ≡ sizesOf h
@@ -35,36 +33,8 @@ module _ (m : State) (k : Memory) (h : Holds m k) (p a : ℕ) (low : p < places 
   u : Unmapped m p a
   u = is-unmapped m p a absent
 
-  start-low : a < places (m .sizes)
-  start-low = omega (arith, owner-of (m .sizes .pages) (m .starts) p a (u .region-is) .at-most)
-
-  counted : at (k .count) a ≡ length (region m a)
-  counted = h .counts a start-low
-
-  -- the word on the stack that the page is to take
-  top-room : startOf m (a + at (k .count) a) ≡ some a
-  top-room = rw counted (stack-room m (h .sound) p a u)
-
-  top-low : a + at (k .count) a < places (m .sizes)
-  top-low = owned-below m (h .sound) _ a top-room
-
-  -- ---- the code's test of the words that it needs
-
-  newest-place : (n : ℕ) → at (k .count) a ≡ n → topOk (k .stack) (places (m .sizes)) a n ≡ true
-  newest-place zero e = refl
-  newest-place (suc n) e =
-      let i : n < length (region m a) = omega (arith, counted) in
-      lt-ltb (at (k .stack) (a + n)) (places (m .sizes)) (rw (h .entries a n i .stack-is) (owned-below m (h .sound) _ a (h .sound .own a n i)))
-
-  next-frame : (n f : ℕ) → takenFrom (k .link) (k .head) n .frame ≡ f → f < m .sizes .frames → nextOk (k .head .frames) (k .head .first) n ≡ true
-  next-frame zero f e l = refl
-  next-frame (suc n) f e l = lt-ltb (k .head .first) (k .head .frames) (omega (arith, ap (λ z. z .frames) (h .sizes-are)))
-
-  pub fits-honest : (f : ℕ) (rest : List ℕ) → m .pool ≡ f ∷ rest → fitOk (k .head) (k .count) (k .stack) (places (m .sizes)) a ≡ true
-  unfolding fitOk
-  fits-honest f rest is =
-      let t = taken-honest m k h f rest is in
-      rw (lt-ltb (a + at (k .count) a) (places (m .sizes)) top-low, newest-place (at (k .count) a) refl, next-frame (k .head .many) f (t .0) (t .1))
+  next : NextWord m k a
+  next = next-word m k h p a low absent
 
   -- ---- the words after
 
@@ -77,8 +47,8 @@ module _ (m : State) (k : Memory) (h : Holds m k) (p a : ℕ) (low : p < places 
 
   other-top : (b j : ℕ) → j < length (region m b) → b + j ≢ a + at (k .count) a
   other-top b j l e =
-      let same : b ≡ a = Option·some-injective b a (sym (h .entries b j l .room) ∙ ap (startOf m) e ∙ top-room) in
-      omega (arith, counted, ap (λ (c : ℕ). length (region m c)) same)
+      let same : b ≡ a = Option·some-injective b a (sym (h .entries b j l .room) ∙ ap (startOf m) e ∙ next .room) in
+      omega (arith, next .counted, ap (λ (c : ℕ). length (region m c)) same)
 
   -- for the frame that the code takes
   module _ (lent : Long (pageFacts Touch .uses) (m .sizes) (lengths k)) (rest : List ℕ) (is : m .pool ≡ taken (k .link) (k .head) .frame ∷ rest) where
@@ -110,8 +80,8 @@ module _ (m : State) (k : Memory) (h : Holds m k) (p a : ℕ) (low : p < places 
     new-placed : Placed after (mapPage k a p) a (length (region m a)) pair
     new-placed =
         record {
-          stack-is = rw (← counted) (getD-set-same (k .stack) (a + at (k .count) a) p 0 (omega (arith, top-low, lent .stack refl)));
-          helper-is = getD-set-same (k .helper) p _ 0 (omega (arith, lent .helper refl)) ∙ counted;
+          stack-is = rw (← next .counted) (getD-set-same (k .stack) (a + at (k .count) a) p 0 (omega (arith, next .below, lent .stack refl)));
+          helper-is = getD-set-same (k .helper) p _ 0 (omega (arith, lent .helper refl)) ∙ next .counted;
           cache-is = getD-set-same (k .cache) p a 0 (omega (arith, lent .cache refl));
           table-is = getD-set-same (k .table) p _ 0 (omega (arith, lent .table refl));
           room = stack-room m (h .sound) p a u;
@@ -135,7 +105,7 @@ module _ (m : State) (k : Memory) (h : Holds m k) (p a : ℕ) (low : p < places 
     all-counted q l = elim (ℕ-discrete q a) [
       | yes e ↦
           rw (e, getD-set-same (k .count) a (at (k .count) a + 1) 0 (omega (arith, h .count-long)), region-here, length-append)
-          (ap (λ (n : ℕ). n + 1) counted)
+          (ap (λ (n : ℕ). n + 1) (next .counted))
       | no d ↦ rw (getD-set-other (k .count) a q (at (k .count) a + 1) 0 d, region-there q d) (h .counts q l)
     ]
 
@@ -151,7 +121,7 @@ module _ (m : State) (k : Memory) (h : Holds m k) (p a : ℕ) (low : p < places 
           index-is = h .index-is;
           counts = all-counted;
           entries = all-placed;
-          links = linked-paired m k h f rest is (lent .link refl) a p newest start-low (newest-honest m k h a start-low);
+          links = linked-paired m k h f rest is (lent .link refl) a p newest (next .start-low) (newest-honest m k h a (next .start-low));
           pooled = pooled-taken m k h f rest is newest;
           ram-is = h .ram-is;
         }

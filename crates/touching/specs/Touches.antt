@@ -1,6 +1,6 @@
 -- From a plan to the whole touch: what carrying it out may take for granted, and that it keeps the promise.
 use mathlib.Core.Path.{_≡_, refl, sym, ap, _∙_}
-use mathlib.Core.Bool.{Bool, true, false}
+use mathlib.Core.Bool.{true}
 use mathlib.Core.List.{List, []}
 use Prim.Native.Nat.{ℕ, zero, suc, _+_, _≤_, _<_}
 use native.Mathlib.Omega.{arith}
@@ -9,29 +9,30 @@ use lib.Dec.{ltb}
 use lib.ListN.{length}
 use Rattle.machine.specs.declared.PageCall.the-variants.{Touch}
 use Rattle.machine.specs.Machine.{Sizes, places, placeOf, touch, asked, Answer, old, new, refusedAfter}
-use Rattle.machine.specs.Laws.Sizes.{both, fit, place-below}
+use Rattle.machine.specs.Laws.Sizes.{fit}
 use Rattle.memory.specs.Memory.{Memory, memory, at, sizesOf, lengths}
 use Rattle.memory.specs.declared.Head.{Head}
 use Rattle.pool.specs.declared.Taken.{Taken}
-use Rattle.lookup.specs.declared.Sight.{Sight}
 use Rattle.lookup.specs.declared.Sight.the-variants as sight-is
-use Rattle.touching.specs.declared.Plan.{Plan}
-use Rattle.touching.specs.declared.Plan.the-variants as plan-is
+use Rattle.planning.specs.declared.Plan.{Plan}
+use Rattle.planning.specs.declared.Plan.the-variants as plan-is
 use Rattle.promise.specs.Did.{Tables, Did}
 use Rattle.laws.specs.Models.{checkOf, touchLengths}
-use Rattle.pool.specs.Models.{emptyPool, takenFrom}
-use Rattle.touching.specs.Models.{topOk, fitOk, planIf, planFor, planSays, planLeaves}
+use Rattle.pool.specs.Models.{takenFrom}
+use Rattle.planning.specs.Models.{topOk}
+use Rattle.planning.specs.Fits.{Planned}
+use Rattle.planning.specs.Planning.{new-inside, plan-maps, fit-top}
+use Rattle.touching.specs.Models.{planSays, planLeaves}
 use Rattle.lookup.specs.Models.{SeenAt}
 use Rattle.laws.specs.Checking as checking
 use Rattle.laws.specs.Passing.{page-passes}
 use Rattle.laws.specs.Checks.{page-check}
 use Rattle.laws.specs.Told.{early-refused}
-use Rattle.touching.specs.Touching.{seen-inside, new-inside, touch-did}
+use Rattle.touching.specs.Touching.{touch-did}
 use Rattle.promise.specs.Shown.{frameOf}
-use Rattle.lookup.specs.Ready.{Ready, SeenOf}
 use Rattle.lookup.specs.Sights.{frame-seen, lookable, still-ready, ready-long, not-lent}
 use Rattle.pool.specs.Takes.{TakeableFrom, Top}
-use Rattle.touching.specs.Fits.{Touchable, InReach, Mappable, Mapped, Planned}
+use Rattle.touching.specs.Fits.{Touchable, Mappable, Mapped}
 
 -- ---- a touch that passed the checks
 
@@ -56,52 +57,7 @@ pub still-touchable : {z : Sizes} {x c t e s a l : ℕ} {k k′ : Memory} → Ta
 still-touchable t y =
     record { ready = still-ready t (y .ready); link-long = omega (arith, ap (λ (z : Sizes). z .frames) (t .sizes), t .link .few .size, y .link-long) }
 
--- ---- the plan
-
-module _ (h : Head) (i b : ℕ) (index count table helper stack cache : List ℕ) (s : Sight) (seen : SeenOf h i b index count table helper stack cache s) where
-  -- a start that is seen is a place
-  pub seen-reach : Ready h i b index count table helper stack cache → (t : ℕ) → t ≡ places (sizesOf h) → InReach s t count stack
-  seen-reach y t e = go s seen
-    where
-      go : (s : Sight) → SeenOf h i b index count table helper stack cache s → InReach s t count stack
-      go (sight-is.Mapped f) seen = tt
-      go (sight-is.Outside c) seen = tt
-      go sight-is.Broken seen = tt
-      go (sight-is.Unmapped a c) seen =
-          let z = sizesOf h in
-          rw e (
-            seen-inside (memory h index count table helper stack cache [] []) i b (y .sizes-ok) (y .index-long) (place-below z i b (y .space) (y .page)) a c
-                seen,
-            fit z (y .sizes-ok) .few-places,
-            y .count-long,
-            y .stack-long,
-          )
-
-  pub planned-as : (t : ℕ) (r : Plan) → t ≡ places (sizesOf h) → r ≡ planFor h count stack t s → Planned h i b index count table helper stack cache r
-  planned-as t r et is = record { sight = s; seen = seen; is = rw et at is }
-
 -- ---- a plan to map a page
-
--- the page is absent, the pool has a frame, and the region's words fit
-pub record Maps (h : Head) (count stack : List ℕ) (t a c : ℕ) (s : Sight) : Type 0 where
-  pub seen-as : s ≡ sight-is.Unmapped a c
-  pub some-left : emptyPool h ≡ false
-  pub fits : fitOk h count stack t a ≡ true
-
-plan-maps : (h : Head) (count stack : List ℕ) (t a c : ℕ) (s : Sight) → planFor h count stack t s ≡ plan-is.New a c → Maps h count stack t a c s
-plan-maps h count stack t a c (sight-is.Mapped f) e = absurd (let z : _≡_ {A = ℕ} 0 1 = cc in omega arith)
-plan-maps h count stack t a c (sight-is.Outside w) e = absurd (let z : _≡_ {A = ℕ} 0 1 = cc in omega arith)
-plan-maps h count stack t a c sight-is.Broken e = absurd (let z : _≡_ {A = ℕ} 0 1 = cc in omega arith)
-plan-maps h count stack t a c (sight-is.Unmapped q w) e = go (emptyPool h) (fitOk h count stack t q) refl refl e
-  where
-    go : (empty fits : Bool) → emptyPool h ≡ empty → fitOk h count stack t q ≡ fits → planIf empty fits q w ≡ plan-is.New a c
-        → Maps h count stack t a c (sight-is.Unmapped q w)
-    go true fits l f e = absurd (let z : _≡_ {A = ℕ} 0 1 = cc in omega arith)
-    go false false l f e = absurd (let z : _≡_ {A = ℕ} 0 1 = cc in omega arith)
-    go false true l f e =
-        let start : q ≡ a = cc in
-        let words : w ≡ c = cc in
-        record { seen-as = rw (start, words); some-left = l; fits = rw start at f }
 
 -- the frame can be taken, and the newest page read
 takeable : (h : Head) (link : List ℕ) (n : ℕ) → takenFrom link h n .frame < h .frames → h .frames ≤ 65536 → h .frames ≤ length link → TakeableFrom h link n
@@ -112,10 +68,6 @@ top-readable : (table stack : List ℕ) (t a n : ℕ) → topOk stack t a n ≡ 
     → Top table stack a n
 top-readable table stack t a zero ok l few long-stack long-table = tt
 top-readable table stack t a (suc n) ok l few long-stack long-table = (omega arith, omega arith, omega (arith, ltb-true (at stack (a + n)) t ok))
-
-fit-top : (h : Head) (count stack : List ℕ) (t a : ℕ) → fitOk h count stack t a ≡ true → topOk stack t a (at count a) ≡ true
-unfolding fitOk
-fit-top h count stack t a e = both (ltb (a + at count a) t) _ (both _ _ e .0) .1
 
 -- ---- the whole touch
 

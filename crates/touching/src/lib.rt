@@ -1,83 +1,24 @@
 // Touching a page: a resident one answers its frame; an absent one gets the pool's first frame, with one
 // word in each of the six tables and no loop.
-use checks::all_places;
 use checks::check;
 use checks::place;
 use checks::wide;
-use lookup::Sight;
 use lookup::frame_of;
-use lookup::see;
 use machine::Touched;
 use memory::ANY;
 use memory::Head;
 use memory::Lengths;
 use memory::TouchOut;
+use planning::Plan;
+use planning::planned;
 use pool::Taken;
-ghost use mathlib.Core.Path.{_≡_};
 ghost use mathlib.Core.List.{List};
-ghost use Prim.Native.Nat.{ℕ, _+_, _<_, _≤_};
-ghost use lib.ListN.{length};
+ghost use Prim.Native.Nat.{ℕ};
 ghost use Rattle.machine.specs.Machine as machine;
 ghost use Rattle.machine.specs.Answers.{touchedSays};
 ghost use Rattle.memory.specs.Memory.{memory};
 ghost use Rattle.promise.specs.Did.{Did};
-ghost use Rattle.touching.specs.Models.{topOk, fitOk, planFor};
-ghost use Rattle.lookup.specs.Ready.{Ready};
-ghost use Rattle.touching.specs.Fits.{Touchable, InReach, Mappable, Mapped, Planned};
-
-// What a touch is to do: nothing for a resident page; map one of the region that starts at a place.
-pub enum Plan {
-    Old(u32),
-    New(usize, u32),
-    Refused(u32, u32),
-}
-
-// Whether the newest entry of a region of n pages is a place.
-fn top_ok(stack: &[u32], t: usize, a: usize, n: usize) -> bool
-    requires { ⌜ (a + n ≤ length (now stack)) × (a + n ≤ 262144) ⌝ }
-    ensures { λ r. ⌜ r ≡ topOk (now (stack .entry)) t a n ⌝ }
-{
-    if n == 0 {
-        return true;
-    }
-    wide(stack[a + (n - 1)]) < t
-}
-
-// Whether the words that a new page of the region at a needs are where they may be.
-fn fit(h: Head, count: &[u32], stack: &[u32], t: usize, a: usize) -> bool
-    requires { ⌜ (a < t) × (t ≤ 262144) × (t ≤ length (now count)) × (t ≤ length (now stack)) ⌝ }
-    ensures { λ r. ⌜ r ≡ fitOk h (now (count .entry)) (now (stack .entry)) t a ⌝ }
-{
-    let n = wide(count[a]);
-    if t <= a + n {
-        return false;
-    }
-    if !top_ok(stack, t, a, n) {
-        return false;
-    }
-    pool::next_ok(h)
-}
-
-// What to do about a page so seen.
-fn plan_for(h: Head, s: Sight, count: &[u32], stack: &[u32], t: usize) -> Plan
-    requires { ⌜ InReach s t (now count) (now stack) ⌝ }
-    ensures { λ r. ⌜ r ≡ planFor h (now (count .entry)) (now (stack .entry)) t s ⌝ }
-{
-    match s {
-        Sight::Mapped(f) => Plan::Old(f),
-        Sight::Unmapped(a, c) => {
-            if pool::is_empty(h) {
-                return Plan::Refused(8, c);
-            }
-            if fit(h, count, stack, t, a) {
-                return Plan::New(a, c);
-            }
-            Plan::Refused(9, c)
-        }
-        Sight::Outside(c) => Plan::Refused(4, c),
-        Sight::Broken => Plan::Refused(9, 0),
-    }
-}
+ghost use Rattle.touching.specs.Fits.{Touchable, Mappable, Mapped};
 
 // Maps page p of the region at a: one word in each table.
 fn map_page(
@@ -107,26 +48,6 @@ fn map_page(
     cache[p] = a as u32;
     count[a] = (n + 1) as u32;
     new
-}
-
-// What a touch is to do. Reads only.
-fn planned(
-    head: Head,
-    space: u32,
-    page: u32,
-    index: &[u64],
-    count: &[u32],
-    table: &[u32],
-    helper: &[u32],
-    stack: &[u32],
-    cache: &[u32],
-) -> Plan
-    requires { ⌜ Ready head space page (now index) (now count) (now table) (now helper) (now stack) (now cache) ⌝ }
-    ensures { λ r. ⌜ Planned head space page (now (index .entry)) (now (count .entry)) (now (table .entry)) (now (helper .entry)) (now (stack .entry))
-        (now (cache .entry)) r ⌝ }
-{
-    let s = see(head, space, page, index, count, table, helper, stack, cache);
-    plan_for(head, s, count, stack, all_places(head))
 }
 
 // The touch of a call that passed the checks: a write checks once and touches many pages.

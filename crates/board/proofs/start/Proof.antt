@@ -11,10 +11,10 @@ use Rattle.memory.proofs.StartOut as O
 use Rattle.memory.proofs.StartOut.Laws as O′
 use Rattle.machine.proofs.Done as R
 use Rattle.machine.proofs.Done.Laws as R′
-use Rattle.marking.proofs.start as g
-use Rattle.marking.proofs.start.Symbol as g-def
-use Rattle.marking.proofs.start.Symbol.{name as #g}
-use Rattle.marking.proofs.start.Met as g-thm
+use Rattle.starting.proofs.start as g
+use Rattle.starting.proofs.start.Symbol as g-def
+use Rattle.starting.proofs.start.Symbol.{name as #g}
+use Rattle.starting.proofs.start.Met as g-thm
 use Rattle.board.proofs.Walks.{Kind, word, unique, typesOf, spellsOf, tellsOf, typedOf, meets, others, headVal, enters, opens-head, relend, arg}
 use Rattle.board.proofs.Walks.{stores, settled}
 use Rattle.board.proofs.start.Key.{name as #f}
@@ -66,4 +66,4 @@ start-spec 𝓤 H 𝓜 𝓖 𝓡 =
     entered 𝓤 H (tripleOf 𝓤 H (𝓖 .A) f.signature (f.spec 𝓤 H (𝓖 .A) (𝓜 .mem) (𝓡 .run)))
     (tables 𝓤 H 𝓜 𝓡 code.env .C) (tables 𝓤 H 𝓜 𝓡 code.env .Λ) #f code.function (code.unfolded 𝓤 H 𝓜 𝓡)
     (f-meets 𝓤 H (𝓖 .A) (givenOf 𝓤 H 𝓜 𝓖) (𝓜 .mem) (𝓡 .run) (tablesOf 𝓤 H 𝓜 (tables 𝓤 H 𝓜 𝓡 code.env))
-    (cited 𝓤 H (Callee 𝓤 H (𝓖 .A) (𝓜 .mem) (𝓡 .run)) 𝓜 𝓡 code.env #g g-def.routine code.calls-marking·start (g-thm.met 𝓤 H 𝓜 𝓖 𝓡)))
+    (cited 𝓤 H (Callee 𝓤 H (𝓖 .A) (𝓜 .mem) (𝓡 .run)) 𝓜 𝓡 code.env #g g-def.routine code.calls-starting·start (g-thm.met 𝓤 H 𝓜 𝓖 𝓡)))

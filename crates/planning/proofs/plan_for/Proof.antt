@@ -1,9 +1,9 @@
 -- What is seen decides, then the pool, then the region's words.
 use mathlib.Core.Path.{sym, _∙_}
-use Rattle.touching.proofs.Plans.{plan-old, plan-outside, in-reach, plan-empty, plan-new, plan-broken}
+use Rattle.planning.proofs.Plans.{plan-old, plan-outside, in-reach, plan-empty, plan-new, plan-broken}
 use borrow.Author.Needs.{needs}
-use Rattle.touching.proofs.plan_for.Statement.{statement}
-use Rattle.touching.proofs.plan_for.Tie as tie
+use Rattle.planning.proofs.plan_for.Statement.{statement}
+use Rattle.planning.proofs.plan_for.Tie as tie
 
 returns : tie.Need-returns
 returns c = plan-empty _ _ _ _ _ _ _ (c .before .before .before .s2 .given .1) (sym (c .before .is-empty .ensures) ∙ (c .if1) .taken)

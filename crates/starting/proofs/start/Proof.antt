@@ -1,8 +1,8 @@
 -- The page size, the check, then what begins.
-use Rattle.marking.proofs.Starting.{start-no-size, start-refused, start-ready, start-begun}
+use Rattle.starting.proofs.Begins.{start-no-size, start-refused, start-ready, start-begun}
 use borrow.Author.Needs.{needs}
-use Rattle.marking.proofs.start.Statement.{statement}
-use Rattle.marking.proofs.start.Tie as tie
+use Rattle.starting.proofs.start.Statement.{statement}
+use Rattle.starting.proofs.start.Tie as tie
 
 returns : tie.Need-returns
 returns c = start-no-size _ _ _ _ _ _ _ _ ((c .before .before .before .of) .ensures) _ _ _ ((c .before .enum-told) .given .1) ((c .not-started) .ensures)

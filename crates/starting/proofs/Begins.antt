@@ -16,11 +16,11 @@ use Rattle.memory.specs.declared.Head.{Head}
 use Rattle.memory.specs.declared.Lengths.{Lengths}
 use Rattle.promise.specs.Did.{Did}
 use Rattle.laws.specs.Models.{lentTo, checkOf}
-use Rattle.marking.specs.Models.{changeSays, startHead}
+use Rattle.starting.specs.Models.{changeSays, startHead}
 use Rattle.laws.specs.Checking.{checked-no, checked-yes, ready}
-use Rattle.marking.specs.Marking.{start-did}
+use Rattle.starting.specs.Starting.{start-did}
 use Rattle.machine.specs.Machine.{sizes}
-use Rattle.marking.specs.Steps.{Beginnable, BeginsAs}
+use Rattle.starting.specs.Steps.{Beginnable, BeginsAs}
 
 pub begins : (next : Head) (t : ℕ) (ws count : List ℕ) (d : Change) (a : Answer) (ws′ count′ : List ℕ) → t ≡ places (sizesOf next)
     → Prepared t ws d ws′ → count′ ≡ replicate t 0 ++ drop t count → a ≡ changeSays d → BeginsAs next ws count next a ws′ count′

@@ -6,8 +6,8 @@ use native.Mathlib.Omega.{arith}
 use borrow.Author.Needs.{needs}
 use lib.ListN.{length, drop, set, replicate}
 use Rattle.sequence.specs.Lists.{clear-more}
-use Rattle.marking.proofs.clear_counts.Statement.{statement}
-use Rattle.marking.proofs.clear_counts.Tie as tie
+use Rattle.starting.proofs.clear_counts.Statement.{statement}
+use Rattle.starting.proofs.clear_counts.Tie as tie
 
 abbrev Inv-loop : tie.InvT-loop
 Inv-loop count₀ t i₀ count i = (i ≤ t) × (count ≡ replicate i 0 ++ drop i count₀) × (length count ≡ length count₀)

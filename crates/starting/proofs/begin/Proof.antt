@@ -1,8 +1,8 @@
 -- The index prepared, the counts cleared.
-use Rattle.marking.proofs.Starting.{begins}
+use Rattle.starting.proofs.Begins.{begins}
 use borrow.Author.Needs.{needs}
-use Rattle.marking.proofs.begin.Statement.{statement}
-use Rattle.marking.proofs.begin.Tie as tie
+use Rattle.starting.proofs.begin.Statement.{statement}
+use Rattle.starting.proofs.begin.Tie as tie
 
 returns : tie.Need-returns
 returns c =
