@@ -1,27 +1,25 @@
 -- Playing codes: a list after another, and what follows of demands 2 and 3.
-use mathlib.Core.Path.{_≡_, refl, sym, ap, _∙_, subst}
+use mathlib.Core.Path.{_≡_, refl, sym, ap, _∙_}
 use mathlib.Core.List.{List, [], _∷_, _++_}
 use mathlib.Core.Logic.{inl}
-use Prim.Native.Nat.{ℕ, suc, _+_}
+use Prim.Native.Nat.{ℕ, _+_}
 use native.Mathlib.Nat.{add-zero, zero-add, suc-add, add-suc}
 use native.Mathlib.Omega.{arith}
 use lib.ListN.{length}
 use Rattle.machine.specs.Machine.{Sizes, State, Lent, start, asked, accepted, Answer, done, after, Out, begun, unstarted, step}
-use Rattle.memory.specs.Memory.{Memory, sizesOf, lengths}
+use Rattle.memory.specs.Memory.{Memory, lengths}
 use Rattle.promise.specs.Holds.{Roomy}
 use Rattle.promise.specs.Did.{Did}
 use Rattle.laws.specs.Refusals.{passed-step}
 use Rattle.demands.specs.History.{Event, lent-front, Run, none, next}
 use Rattle.demands.specs.Demands.{machineAt, Demand3}
 use Rattle.demands.specs.Theorems.{demand-3}
-use Rattle.requests.specs.Requests.{requested}
 use Rattle.serving.specs.Steps.{whole-step, Stands, serve-follows}
 use Rattle.requests.specs.declared.Request.{Request}
-use Rattle.requests.specs.declared.Request.the-variants.{Start, Page, Free, Translate, Read, Write, List as Listing}
+use Rattle.requests.specs.declared.Request.the-variants.{Start}
 use Rattle.decoding.specs.declared.Parts.{Parts}
 use Rattle.decoding.specs.declared.Code.{Code}
-use Rattle.decoding.specs.declared.Code.the-variants.{Call, Unreadable}
-use Rattle.codes.specs.Codes.{codeAt}
+use Rattle.decoding.specs.declared.Code.the-variants.{Call}
 use Rattle.codes.specs.Plays.{Desk, called, laid, Played, playOne, plays, Turns}
 use Rattle.codes.specs.Plays.Turns.{none as no-turn, skip, turn}
 use Rattle.codes.specs.Promise.{byMachine, StartsFirst, Plays}

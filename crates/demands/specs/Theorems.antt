@@ -60,7 +60,8 @@ demand-3 m₀ k k′ es q room =
       in-ram = λ i x v b a k″ d.
           let t = stored-there m₀ k k′ es q i x v b in
           let b′ = t .stored in
-          (b′ .place, translate-next m k′ H i x (b′ .place) (translate-asks m k′ H room i x (t .here)) (b′ .is-at) a k″ d, ap (λ (ram : List ℕ). getD ram (b′ .place) 0) (H .ram-is) ∙ b′ .is);
+          let placed = translate-next m k′ H i x (b′ .place) (translate-asks m k′ H room i x (t .here)) (b′ .is-at) a k″ d in
+          (b′ .place, placed, ap (λ (ram : List ℕ). getD ram (b′ .place) 0) (H .ram-is) ∙ b′ .is);
       constant = λ i b a k″ d. d .bounds;
     }
 

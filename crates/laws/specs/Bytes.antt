@@ -1,5 +1,5 @@
 -- Bytes stored in the RAM, and nothing else changed, keep the memory honest.
-use mathlib.Core.Path.{_≡_, refl}
+use mathlib.Core.Path.{refl}
 use mathlib.Core.List.{List}
 use Prim.Native.Nat.{ℕ}
 use Rattle.machine.specs.Machine.{State, withRam}

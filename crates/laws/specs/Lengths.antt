@@ -1,11 +1,11 @@
 -- What a call that kept its promise left as long as it was, on any memory, and the sizes of one that begins nothing.
-use mathlib.Core.Path.{_≡_, refl, ap}
+use mathlib.Core.Path.{_≡_, ap}
 use mathlib.Core.Option.{none}
 use Prim.Native.Nat.{ℕ}
 use native.Mathlib.Omega.{arith}
 use lib.ListN.{length}
-use Rattle.machine.specs.Machine.{Sizes, Lent, Call, start, page, free, translate, read, write, list, facts, Effect, unchanged, prepared, startPut, pageMapped}
-use Rattle.machine.specs.Machine.{regionEmptied, spanStored, asked, Answer}
+use Rattle.machine.specs.Machine.{Lent, Call, start, page, free, translate, read, write, list, facts, Effect, unchanged, prepared, startPut, pageMapped}
+use Rattle.machine.specs.Machine.{regionEmptied, spanStored, Answer}
 use Rattle.machine.specs.declared.PageCall.the-variants.{Mark, Drop, Touch, Look, Release}
 use Rattle.memory.specs.Memory.{Memory, sizesOf, lengths}
 use Rattle.promise.specs.Did.{BoundsBy, Did}

@@ -1,9 +1,9 @@
 -- What is seen of the page at a place, and what look makes of it, on lists.
 use mathlib.Core.Path.{_≡_}
-use mathlib.Core.Bool.{Bool, true, false, _&&_}
+use mathlib.Core.Bool.{Bool, true, false}
 use mathlib.Core.List.{List}
-use Prim.Native.Nat.{ℕ, _+_}
-use lib.Dec.{eqb, leb, ltb}
+use Prim.Native.Nat.{ℕ}
+use lib.Dec.{leb, ltb}
 use Rattle.index.specs.declared.Change.the-variants as change-is
 use Rattle.index.specs.declared.Membership.the-variants as membership-is
 use Rattle.index.specs.declared.Found.{Found}

@@ -47,7 +47,9 @@ all-maps {i} {b} (one-touched {n} {k₁} {k₂} t d) = let p = all-maps t in (ad
           shown = λ all.
               let before : t .mapped ≡ 0 = t .shown (λ j l. all j (omega arith)) in
               let here : v .mapped ≡ 0 =
-              v .shown (λ j l. still-shown t before i (b + n + j) (subst (Shown k i) (sym (add-zero (b + n)) ∙ ap (λ (c : ℕ). b + n + c) (only j l)) (all n (omega arith)))) in
+              v .shown (λ j l.
+              still-shown t before i (b + n + j)
+              (subst (Shown k i) (sym (add-zero (b + n)) ∙ ap (λ (c : ℕ). b + n + c) (only j l)) (all n (omega arith)))) in
               omega arith;
           sizes = v .sizes ∙ t .sizes;
           index = v .index ∙ t .index;

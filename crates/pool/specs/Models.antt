@@ -1,8 +1,8 @@
 -- The pool on lists: what its code does. The pool is `many` frames linked from `first` on, then the frames from `fresh` on.
 use mathlib.Core.Path.{_≡_}
-use mathlib.Core.Bool.{Bool, true, false, not, _&&_}
+use mathlib.Core.Bool.{Bool, true, false, _&&_}
 use mathlib.Core.List.{List}
-use Prim.Native.Nat.{ℕ, zero, suc, _+_, _-_}
+use Prim.Native.Nat.{ℕ, zero, suc, _+_}
 use lib.Dec.{eqb, leb, ltb}
 use Rattle.machine.specs.Machine.{sizesOk, firstOf, Answer, frames, refused}
 use Rattle.memory.specs.Memory.{Memory, at, sizesOf}

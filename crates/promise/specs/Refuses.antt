@@ -2,7 +2,7 @@
 use mathlib.Core.Path.{_≡_, refl, sym, ap, _∙_, subst}
 use mathlib.Core.Bool.{true}
 use mathlib.Core.List.{List, [], _∷_, List·Memᴰ, List·Memᴰ·head, List·Memᴰ·tail}
-use mathlib.Core.Logic.{_⊎_, inl, inr}
+use mathlib.Core.Logic.{inl, inr}
 use Prim.Native.Nat.{ℕ, zero, suc, _+_, _*_, _/_, _≤_, _<_}
 use native.Mathlib.Omega.{arith}
 use lib.ListN.{length, drop as dropped}
@@ -94,12 +94,14 @@ within-by : (e : Effect) (n : ℕ) (k k′ : Memory) → BoundsBy e n k k′ →
 within-by unchanged n k k′ b = b
 within-by (prepared z) n k k′ b = λ j. memory (k′ .head) (k′ .index) (k′ .count) (b .table j) (b .helper j) (b .stack j) (b .cache j) (b .link j) (b .ram j)
 within-by (startPut i p) n k k′ b = let w = b .words in let e = refl in λ j.
-    memory (b .head j) (k′ .index) (words-same e (w .count) j) (words-same e (w .table) j) (words-same e (w .helper) j) (words-same e (w .stack) j) (words-same e (w .cache) j)
+    memory (b .head j) (k′ .index) (words-same e (w .count) j) (words-same e (w .table) j) (words-same e (w .helper) j) (words-same e (w .stack) j)
+    (words-same e (w .cache) j)
     (words-same e (w .link) j) (w .ram j)
 within-by (pageMapped i p) n k k′ b = λ j.
     memory (k′ .head) (b .0 .index j) (k′ .count) (k′ .table) (k′ .helper) (k′ .stack) (k′ .cache) (k′ .link) (b .1 j)
 within-by (regionEmptied i p) n k k′ b = let e = refl in λ j.
-    memory (k′ .head) (words-same e (b .index) j) (k′ .count) (words-same e (b .table) j) (words-same e (b .helper) j) (words-same e (b .stack) j) (words-same e (b .cache) j) (k′ .link)
+    memory (k′ .head) (words-same e (b .index) j) (k′ .count) (words-same e (b .table) j) (words-same e (b .helper) j) (words-same e (b .stack) j)
+    (words-same e (b .cache) j) (k′ .link)
     (b .ram j)
 within-by (spanStored i x vs) n k k′ b = λ j.
     memory (k′ .head) (b .maps .index j) (k′ .count) (k′ .table) (k′ .helper) (k′ .stack) (k′ .cache) (k′ .link) (k′ .ram)
@@ -107,7 +109,8 @@ within-by (spanStored i x vs) n k k′ b = λ j.
 -- where no page is mapped only the RAM changes
 only-ram : (z : Sizes) (i b n : ℕ) (k k′ : Memory) (w : Maps z i b n k k′) → w .mapped ≡ 0 → k′ ≡ withBytes k (k′ .ram)
 only-ram z i b n k k′ w e = λ j.
-    memory (w .none e j) (w .index j) (words-same e (w .count) j) (words-same e (w .table) j) (words-same e (w .helper) j) (words-same e (w .stack) j) (words-same e (w .cache) j)
+    memory (w .none e j) (w .index j) (words-same e (w .count) j) (words-same e (w .table) j) (words-same e (w .helper) j) (words-same e (w .stack) j)
+    (words-same e (w .cache) j)
     (words-same e (w .link) j) (k′ .ram)
 
 -- ---- any call

@@ -8,7 +8,7 @@ use native.Mathlib.Omega.{arith}
 use lib.ListN.{length, drop}
 use lib.Seq.{take-length, drop-length}
 use Rattle.machine.specs.Machine.{Sizes, sizes, sizesOk, State, Lent, Call, start, uses, asked, accepted, Answer, refusal, answer, after, Out, begun}
-use Rattle.machine.specs.Machine.{unstarted, step}
+use Rattle.machine.specs.Machine.{unstarted}
 use Rattle.memory.specs.Memory.{Memory, memory, sizesOf, lengths}
 use Rattle.promise.specs.Holds.{Holds}
 use Rattle.promise.specs.Did.{Did, Exactly, still}

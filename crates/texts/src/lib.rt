@@ -24,7 +24,7 @@ pub fn put(out: &mut [u8], at: usize, word: &[u8]) -> usize
 }
 
 // A number in decimal, at most 20 digits.
-pub fn put_number(out: &mut [u8], at: usize, n: u64) -> usize
+fn put_number(out: &mut [u8], at: usize, n: u64) -> usize
     requires { ⌜ at + 20 ≤ length (now out) ⌝ }
     ensures { λ r. ⌜ Wrote at (now (out .entry)) (decimal n) r (now (out .exit)) ⌝ }
     ensures { λ r. ⌜ r ≤ at + 20 ⌝ }
@@ -43,7 +43,7 @@ fn glyph_of(d: u8) -> u8
 }
 
 // Bytes, two hex digits each.
-pub fn put_hex(out: &mut [u8], at: usize, bytes: &[u8]) -> usize
+fn put_hex(out: &mut [u8], at: usize, bytes: &[u8]) -> usize
     requires { ⌜ at + 2 * length (now bytes) ≤ length (now out) ⌝ }
     ensures { λ r. ⌜ Wrote at (now (out .entry)) (hexText (now (bytes .entry))) r (now (out .exit)) ⌝ }
 {
@@ -59,7 +59,7 @@ pub fn put_hex(out: &mut [u8], at: usize, bytes: &[u8]) -> usize
 }
 
 // Numbers, each after a blank.
-pub fn put_numbers(out: &mut [u8], at: usize, numbers: &[u32]) -> usize
+fn put_numbers(out: &mut [u8], at: usize, numbers: &[u32]) -> usize
     requires { ⌜ at + 21 * length (now numbers) ≤ length (now out) ⌝ }
     ensures { λ r. ⌜ Wrote at (now (out .entry)) (numbersText (now (numbers .entry))) r (now (out .exit)) ⌝ }
 {

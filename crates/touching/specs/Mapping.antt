@@ -126,7 +126,8 @@ module _ (m : State) (k : Memory) (h : Holds m k) (p a : ℕ) (low : p < places 
           ram-is = h .ram-is;
         }
 
-  pub map-holds : Long (pageFacts Touch .uses) (m .sizes) (lengths k) → (f : ℕ) (rest : List ℕ) → m .pool ≡ f ∷ rest → Holds (withPair m a p f rest) (mapPage k a p)
+  pub map-holds : Long (pageFacts Touch .uses) (m .sizes) (lengths k) → (f : ℕ) (rest : List ℕ) → m .pool ≡ f ∷ rest
+      → Holds (withPair m a p f rest) (mapPage k a p)
   map-holds lent f rest is =
       let e = taken-honest m k h f rest is .0 in
       subst (λ (g : ℕ). Holds (withPair m a p g rest) (mapPage k a p)) e (holds-after lent rest (is ∙ ap (λ (g : ℕ). g ∷ rest) (sym e)))

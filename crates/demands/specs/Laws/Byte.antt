@@ -58,7 +58,8 @@ module _ (n : State) (k k′ : Memory) (es : List Event) (q : Sequence n k es k�
       let H = run-follows (withRam n (k .ram)) (begins-holding n k (q .started) (q .beginning)) before .holds in
       let (k₂, one) = first-step later in
       let w = wrote m i (s .from) (s .values) (s .lent) (sym (step-follows m k₁ wrote-event k₂ H one .answer-is)) in
-      let b = write-stores m i (s .from) (s .values) (after m c) x (H .sound) (omega (arith, wrote-room m k₁ k₂ H one, ap length (H .ram-is))) w (s .low) (s .high) in
+      let room : m .sizes .frames * m .sizes .page ≤ length (m .ram) = omega (arith, wrote-room m k₁ k₂ H one, ap length (H .ram-is)) in
+      let b = write-stores m i (s .from) (s .values) (after m c) x (H .sound) room w (s .low) (s .high) in
       let here = subst (λ (y : Sizes). Address y i x) (sym (may-change m c (H .sound) .sizes))
       (record { space = w .space; inside = omega (arith, w .fits, s .high) }) in
       let r = history-leaves (after m c) (calls (s .later)) i x _ (step-sound m c (H .sound)) here b (s .spared) in

@@ -109,7 +109,8 @@ loop-again c =
     let l = c .before .before in
     let o = l .before .before in
     let s = entry (passed o .before) in
-    looking-more (lent s) _ _ _ _ (o .loop .inv) (omega (arith, l .before .loop-test .taken)) (λ link. look-asked _ _ _ _ _ _ _ _ _ (pages (passed o) _ (inside (l .before))) link (s .args .ram .now))
+    looking-more (lent s) _ _ _ _ (o .loop .inv) (omega (arith, l .before .loop-test .taken))
+    (λ link. look-asked _ _ _ _ _ _ _ _ _ (pages (passed o) _ (inside (l .before))) link (s .args .ram .now))
     (l .look-checked .result) _ (c .enum-told .given .1) (λ link. l .look-checked .ensures link _)
 
 copy-out-requires : tie.Need-copy-out-requires Inv-loop μ-loop

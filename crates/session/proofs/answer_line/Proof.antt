@@ -64,7 +64,11 @@ returns-4 c =
     call-answered _ _ _ _ _ _ _ _ _ _ _ _ _ (sym (known .before .before .parse .ensures) ∙ known .said .given .1)
     (sym (under .before .is-beyond .ensures) ∙ under .if1 .left) (f .before .before .before .if2 .left)
     (rw (← f .before .fill .ensures) (f .buffer .given))
-    (record { bytes′ = t .answer-call .last .1 .1 .1 .1 .0; answered = rw (← f .before .fill .ensures) (t .answer-call .ensures); buffer-is = rw (← f .before .fill .ensures) refl })
+    (record {
+      bytes′ = t .answer-call .last .1 .1 .1 .1 .0;
+      answered = rw (← f .before .fill .ensures) (t .answer-call .ensures);
+      buffer-is = rw (← f .before .fill .ensures) refl;
+    })
 
 pub answer-line-spec : {M : Type 1} → statement M
 answer-line-spec =

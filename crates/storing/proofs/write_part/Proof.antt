@@ -23,15 +23,16 @@ placed : (c : tie.After-known-told)
     (a .cache .now) (some q)
 placed c =
     let t = told c in
-    located _ _ _ _ _ _ _ _ _ (part-translatable _ _ _ _ _ _ _ _ _ _ _ (entry t .pre .0) (entry t .pre .1)) (t .translate-checked .result) (t .translate-checked .ensures) _
-    (c .before .from .given .1)
+    located _ _ _ _ _ _ _ _ _ (part-translatable _ _ _ _ _ _ _ _ _ _ _ (entry t .pre .0) (entry t .pre .1)) (t .translate-checked .result)
+    (t .translate-checked .ensures) _ (c .before .from .given .1)
 
 returns : tie.Need-returns
 returns c =
     let t = c .before .before in
     let pre = entry t .pre .0 in
     part-refused _ _ _ _ _ _ _ _ _ _ _ pre
-    (nowhere _ _ _ _ _ _ _ _ _ (part-translatable _ _ _ _ _ _ _ _ _ _ _ pre (entry t .pre .1)) (t .translate-checked .result) (t .translate-checked .ensures) _ (c .enum-told .given .1))
+    (nowhere _ _ _ _ _ _ _ _ _ (part-translatable _ _ _ _ _ _ _ _ _ _ _ pre (entry t .pre .1)) (t .translate-checked .result)
+    (t .translate-checked .ensures) _ (c .enum-told .given .1))
 
 add-to : tie.Need-add-to
 add-to c = omega (arith, part-low _ _ _ _ _ (entry (told c) .pre .0) _ (placed c .0))
