@@ -170,7 +170,7 @@ module _ (i b : ℕ) (k : Memory) (a : Answer) (k′ : Memory) where
   pub touch-no-bytes : (vs : List ℕ) → Did (touch i b) k (bytes vs) k′ → ⊥
   touch-no-bytes vs d = let e = own-answer (touch i b) k (bytes vs) k′ d in let z : _≡_ {A = ℕ} 0 1 = cc in omega arith
 
-  -- "three index words"; "one word" of counts and links
+  -- "three index words"; "two table words (a resident count, a frame link)"
   pub mark-few : Did (mark i b) k a k′ → Changed 3 (k .index) (k′ .index)
   mark-few d = d .bounds .words .index .few
 
