@@ -1,8 +1,8 @@
--- The page size as a power of two: which powers are page sizes, and that the RAM's bytes fit a word.
+-- The page size as a power of two: which powers are page sizes, and that the RAM's bytes fit a word; the number of pages by that of places.
 use mathlib.Core.Path.{_≡_, refl, sym, _∙_, subst}
-use mathlib.Core.Bool.{true, false}
+use mathlib.Core.Bool.{Bool, true, false, _&&_}
 use Prim.Native.Nat.{ℕ, _+_, _-_, _*_, _%_, _^_, _≤_, _<_}
-use native.Mathlib.Nat.{lt-irrefl, mul-le-mul-right, mul-le-mul-left}
+use native.Mathlib.Nat.{lt-irrefl, mul-zero, mul-le-mul-right}
 use native.Mathlib.Decide.{decLe, decLt}
 use native.Mathlib.Omega.{arith}
 use borrow.Author.Tests.{le-leb, lt-leb, eq-eqb, ne-eqb, leb-true}
@@ -45,12 +45,22 @@ pub ram-exact : (h : Head) (n : ℕ) → sizesOk (sizesOf h) ≡ true → n ≡ 
 ram-exact h n e q =
     rw q (shl-exact 17 (h .page .shift) 64 (omega (arith, fit (sizesOf h) e .few-frames)) (omega (arith, shift-fits h e)))
 
--- a number of spaces times a number of pages fits a word
-pub small-places : (s n : ℕ) → between 1 64 s ≡ true → between 1 262144 n ≡ true → s * n ≤ 16777216
-small-places s n a b =
-    let x = leb-true s 64 (both (leb 1 s) _ a .1) in
-    let y = leb-true n 262144 (both (leb 1 n) _ b .1) in
-    omega (arith, mul-le-mul-right n x, mul-le-mul-left 64 y)
+-- spaces within their limits, and places within theirs, leave no other number of pages than one within its own
+pub pages-by-places : (s n : ℕ) → between 1 64 s ≡ true → between 1 262144 (s * n) ≡ (between 1 262144 n && leb (s * n) 262144)
+pages-by-places s n e = go (decLe 1 n) (decLe (s * n) 262144)
+  where
+    some : 1 * n ≤ s * n
+    some = mul-le-mul-right n (leb-true 1 s (both (leb 1 s) _ e .0))
+
+    none : (b : Bool) → b && false ≡ false
+    none true = refl
+    none false = refl
+
+    go : Dec (1 ≤ n) → Dec (s * n ≤ 262144) → between 1 262144 (s * n) ≡ (between 1 262144 n && leb (s * n) 262144)
+    go (yes l) (yes h) =
+        rw (le-leb 1 (s * n) (omega (arith, some)), le-leb (s * n) 262144 h, le-leb 1 n l, le-leb n 262144 (omega (arith, some))) refl
+    go (yes l) (no h) = rw (lt-leb (s * n) 262144 (omega arith)) (none (leb 1 (s * n)) ∙ sym (none (between 1 262144 n)))
+    go (no l) d = let zero : n ≡ 0 = omega arith in rw (zero, mul-zero) refl
 
 pub space-exact : (h : Head) (n : ℕ) → sizesOk (sizesOf h) ≡ true → n ≡ h .pages → n * 2 ^ (h .page .shift) % 2 ^ 64 ≡ h .pages * 2 ^ (h .page .shift)
 space-exact h n e q =

@@ -1,4 +1,4 @@
--- What a plan may be on any memory: it maps only a page that isn't shown, inside the tables, and refuses with a number of touch.
+-- What a plan may be on any memory: it maps only a page that isn't shown, inside the tables, and refuses with a number of touch. From what is seen to the plan.
 use mathlib.Core.Path.{_≡_, refl, subst}
 use mathlib.Core.Logic.{inl, inr}
 use mathlib.Core.Bool.{Bool, true, false, cond, _&&_}
@@ -15,8 +15,8 @@ use Rattle.index.specs.Promise.{Bounded}
 use Rattle.places.specs.Places.{size}
 use Rattle.machine.specs.declared.PageCall.the-variants.{Touch}
 use Rattle.machine.specs.Machine.{places, sizesOk, placeOf, touch, asked}
-use Rattle.machine.specs.Laws.Sizes.{both}
-use Rattle.memory.specs.Memory.{Memory, at, sizesOf, lengths}
+use Rattle.machine.specs.Laws.Sizes.{both, fit, place-below}
+use Rattle.memory.specs.Memory.{Memory, memory, at, sizesOf, lengths}
 use Rattle.memory.specs.declared.Head.{Head}
 use Rattle.lookup.specs.declared.Sight.{Sight}
 use Rattle.lookup.specs.declared.Sight.the-variants as sight-is
@@ -29,6 +29,8 @@ use Rattle.pool.specs.Models.{emptyPool, nextOk, takenFrom, taken}
 use Rattle.planning.specs.Models.{topOk, fitOk, planIf, planFor, planOf}
 use Rattle.laws.specs.Refusals.{admitted, check-passes}
 use Rattle.lookup.specs.Looking.{seen-below}
+use Rattle.lookup.specs.Ready.{Ready, SeenOf}
+use Rattle.planning.specs.Fits.{InReach, Planned}
 
 -- ---- where a new page's words lie
 
@@ -168,3 +170,27 @@ plan-maps h count stack t a c (sight-is.Unmapped q w) e = go (emptyPool h) (fitO
 pub fit-top : (h : Head) (count stack : List ℕ) (t a : ℕ) → fitOk h count stack t a ≡ true → topOk stack t a (at count a) ≡ true
 unfolding fitOk
 fit-top h count stack t a e = both (ltb (a + at count a) t) _ (both _ _ e .0) .1
+
+-- ---- the plan of a page, from what is seen of it
+
+module _ (h : Head) (i b : ℕ) (index count table helper stack cache : List ℕ) (s : Sight) (seen : SeenOf h i b index count table helper stack cache s) where
+  -- a start that is seen is a place
+  pub seen-reach : Ready h i b index count table helper stack cache → (t : ℕ) → t ≡ places (sizesOf h) → InReach s t count stack
+  seen-reach y t e = go s seen
+    where
+      go : (s : Sight) → SeenOf h i b index count table helper stack cache s → InReach s t count stack
+      go (sight-is.Mapped f) seen = tt
+      go (sight-is.Outside c) seen = tt
+      go sight-is.Broken seen = tt
+      go (sight-is.Unmapped a c) seen =
+          let z = sizesOf h in
+          rw e (
+            seen-inside (memory h index count table helper stack cache [] []) i b (y .sizes-ok) (y .index-long) (place-below z i b (y .space) (y .page)) a c
+                seen,
+            fit z (y .sizes-ok) .few-places,
+            y .count-long,
+            y .stack-long,
+          )
+
+  pub planned-as : (t : ℕ) (r : Plan) → t ≡ places (sizesOf h) → r ≡ planFor h count stack t s → Planned h i b index count table helper stack cache r
+  planned-as t r et is = record { sight = s; seen = seen; is = rw et at is }

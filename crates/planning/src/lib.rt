@@ -1,15 +1,12 @@
 // What a touch is to do, decided before anything is changed: the page seen, the pool asked, the region's words tested.
-use checks::all_places;
 use checks::wide;
 use lookup::Sight;
-use lookup::see;
 use memory::Head;
 ghost use mathlib.Core.Path.{_≡_};
 ghost use Prim.Native.Nat.{_+_, _<_, _≤_};
 ghost use lib.ListN.{length};
 ghost use Rattle.planning.specs.Models.{topOk, fitOk, planFor};
-ghost use Rattle.lookup.specs.Ready.{Ready};
-ghost use Rattle.planning.specs.Fits.{InReach, Planned};
+ghost use Rattle.planning.specs.Fits.{InReach};
 
 // What a touch is to do: nothing for a resident page; map one of the region that starts at a place.
 pub enum Plan {
@@ -44,8 +41,8 @@ fn fit(h: Head, count: &[u32], stack: &[u32], t: usize, a: usize) -> bool
     pool::next_ok(h)
 }
 
-// What to do about a page so seen.
-fn plan_for(h: Head, s: Sight, count: &[u32], stack: &[u32], t: usize) -> Plan
+// What a touch is to do about a page so seen. Reads only.
+pub fn plan_for(h: Head, s: Sight, count: &[u32], stack: &[u32], t: usize) -> Plan
     requires { ⌜ InReach s t (now count) (now stack) ⌝ }
     ensures { λ r. ⌜ r ≡ planFor h (now (count .entry)) (now (stack .entry)) t s ⌝ }
 {
@@ -63,24 +60,4 @@ fn plan_for(h: Head, s: Sight, count: &[u32], stack: &[u32], t: usize) -> Plan
         Sight::Outside(c) => Plan::Refused(4, c),
         Sight::Broken => Plan::Refused(9, 0),
     }
-}
-
-// What a touch is to do. Reads only.
-pub fn planned(
-    head: Head,
-    space: u32,
-    page: u32,
-    index: &[u64],
-    count: &[u32],
-    table: &[u32],
-    helper: &[u32],
-    stack: &[u32],
-    cache: &[u32],
-) -> Plan
-    requires { ⌜ Ready head space page (now index) (now count) (now table) (now helper) (now stack) (now cache) ⌝ }
-    ensures { λ r. ⌜ Planned head space page (now (index .entry)) (now (count .entry)) (now (table .entry)) (now (helper .entry)) (now (stack .entry))
-        (now (cache .entry)) r ⌝ }
-{
-    let s = see(head, space, page, index, count, table, helper, stack, cache);
-    plan_for(head, s, count, stack, all_places(head))
 }

@@ -1,16 +1,19 @@
 // Touching a page: a resident one answers its frame; an absent one gets the pool's first frame, with one
 // word in each of the six tables and no loop.
+use checks::all_places;
 use checks::check;
+use checks::passes;
 use checks::place;
 use checks::wide;
-use lookup::frame_of;
+use lookup::Sight;
+use lookup::see;
 use machine::Touched;
 use memory::ANY;
 use memory::Head;
 use memory::Lengths;
 use memory::TouchOut;
 use planning::Plan;
-use planning::planned;
+use planning::plan_for;
 use pool::Taken;
 ghost use mathlib.Core.List.{List};
 ghost use Prim.Native.Nat.{ℕ};
@@ -18,7 +21,7 @@ ghost use Rattle.machine.specs.Machine as machine;
 ghost use Rattle.machine.specs.Answers.{touchedSays};
 ghost use Rattle.memory.specs.Memory.{memory};
 ghost use Rattle.promise.specs.Did.{Did};
-ghost use Rattle.touching.specs.Fits.{Touchable, Mappable, Mapped};
+ghost use Rattle.touching.specs.Fits.{Touchable, Mappable, Mapped, Due};
 
 // Maps page p of the region at a: one word in each table.
 fn map_page(
@@ -50,12 +53,12 @@ fn map_page(
     new
 }
 
-// The touch of a call that passed the checks: a write checks once and touches many pages.
-pub fn touch_checked(
+// The touch of a page that was looked up: the plan for it, carried out.
+fn touch_seen(
     head: Head,
     space: u32,
     page: u32,
-    index: &[u64],
+    seen: Sight,
     count: &mut [u32],
     table: &mut [u32],
     helper: &mut [u32],
@@ -63,16 +66,19 @@ pub fn touch_checked(
     cache: &mut [u32],
     link: &mut [u32],
 ) -> TouchOut
-    requires { ⌜ Touchable head space page (now index) (now count) (now table) (now helper) (now stack) (now cache) (now link) ⌝ }
-    ensures { λ r. ⌜ ((ram : List ℕ) →
+    requires { ⌜ ((index : List ℕ) ×
+        Due head space page index (now count) (now table) (now helper) (now stack) (now cache) (now link) seen) ⌝ }
+    ensures { λ r. ⌜ ((index ram : List ℕ) →
+        Due head space page index (now (count .entry)) (now (table .entry)) (now (helper .entry)) (now (stack .entry)) (now (cache .entry))
+        (now (link .entry)) seen →
         Did (machine.touch space page)
-        (memory head (now (index .entry)) (now (count .entry)) (now (table .entry)) (now (helper .entry)) (now (stack .entry)) (now (cache .entry))
+        (memory head index (now (count .entry)) (now (table .entry)) (now (helper .entry)) (now (stack .entry)) (now (cache .entry))
         (now (link .entry)) ram)
         (touchedSays (r .answer))
-        (memory (r .head) (now (index .entry)) (now (count .exit)) (now (table .exit)) (now (helper .exit)) (now (stack .exit)) (now (cache .exit))
+        (memory (r .head) index (now (count .exit)) (now (table .exit)) (now (helper .exit)) (now (stack .exit)) (now (cache .exit))
         (now (link .exit)) ram)) ⌝ }
 {
-    let todo = planned(head, space, page, index, count, table, helper, stack, cache);
+    let todo = plan_for(head, seen, count, stack, all_places(head));
     match todo {
         Plan::Old(f) => TouchOut {
             head,
@@ -95,7 +101,44 @@ pub fn touch_checked(
     }
 }
 
-// The page's frame, mapped if need be. A resident page takes the short way, which makes no plan.
+// The touch of a call that passed the checks: a write checks once and touches many pages.
+pub fn touch_checked(
+    head: Head,
+    space: u32,
+    page: u32,
+    index: &[u64],
+    count: &mut [u32],
+    table: &mut [u32],
+    helper: &mut [u32],
+    stack: &mut [u32],
+    cache: &mut [u32],
+    link: &mut [u32],
+) -> TouchOut
+    requires { ⌜ Touchable head space page (now index) (now count) (now table) (now helper) (now stack) (now cache) (now link) ⌝ }
+    ensures { λ r. ⌜ ((ram : List ℕ) →
+        Did (machine.touch space page)
+        (memory head (now (index .entry)) (now (count .entry)) (now (table .entry)) (now (helper .entry)) (now (stack .entry)) (now (cache .entry))
+        (now (link .entry)) ram)
+        (touchedSays (r .answer))
+        (memory (r .head) (now (index .entry)) (now (count .exit)) (now (table .exit)) (now (helper .exit)) (now (stack .exit)) (now (cache .exit))
+        (now (link .exit)) ram)) ⌝ }
+{
+    let seen = see(head, space, page, index, count, table, helper, stack, cache);
+    touch_seen(
+        head,
+        space,
+        page,
+        seen,
+        count,
+        table,
+        helper,
+        stack,
+        cache,
+        link,
+    )
+}
+
+// The page's frame, mapped if need be. It looks for itself: through `touch_checked` the compiler would hand the head over in memory.
 pub fn touch(
     head: Head,
     space: u32,
@@ -126,25 +169,19 @@ pub fn touch(
         link: link.len(),
         ram: ANY,
     };
-    let no = check(head, lent, space, page < head.pages);
-    if no != 0 {
+    let inside = page < head.pages;
+    if !passes(head, lent, space, inside) {
         return TouchOut {
             head,
-            answer: Touched::Refused(no, 0),
+            answer: Touched::Refused(check(head, lent, space, inside), 0),
         };
     }
-    let f = frame_of(head, space, page, count, table, helper, stack, cache);
-    if f < head.frames {
-        return TouchOut {
-            head,
-            answer: Touched::Old(f),
-        };
-    }
-    touch_checked(
+    let seen = see(head, space, page, index, count, table, helper, stack, cache);
+    touch_seen(
         head,
         space,
         page,
-        index,
+        seen,
         count,
         table,
         helper,

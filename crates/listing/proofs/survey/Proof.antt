@@ -8,9 +8,6 @@ use Rattle.listing.proofs.survey.Tie as tie
 returns : tie.Need-returns
 returns c = rw (c .refused .ensures) (refused-early _ _ _ _ _ _ (c .before .before .check .ensures) (c .before .if1 .taken))
 
-all-places-requires : tie.Need-all-places-requires
-all-places-requires c κs = sizes-pass _ _ _ _ _ (c .before .check .ensures) (c .if1 .left)
-
 place-requires : tie.Need-place-requires
 place-requires c κs = first-pass _ _ _ _ _ (c .before .before .check .ensures) (c .before .if1 .left)
 
@@ -46,5 +43,5 @@ pub survey-spec : {M : Type 1} → statement M
 survey-spec =
     tie.close
     (tie.spec
-    (λ c κs. search needs) (λ c κs. search needs) returns all-places-requires place-requires (λ c κs. search needs) add-end count-regions-requires
+    (λ c κs. search needs) (λ c κs. search needs) returns (λ c κs. search needs) place-requires (λ c κs. search needs) add-end count-regions-requires
     (λ c κs. search needs) (λ c κs. search needs) returns-2 returns-3)

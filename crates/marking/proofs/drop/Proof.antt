@@ -7,9 +7,6 @@ use Rattle.marking.proofs.drop.Tie as tie
 returns : tie.Need-returns
 returns c = drop-refused _ _ _ _ _ ((c .before .check) .ensures) _ _ ((c .before .before .before .lent) .ensures) ((c .if1) .taken)
 
-all-places-requires : tie.Need-all-places-requires
-all-places-requires c κs = sizes-pass _ _ _ _ _ ((c .before .before .check) .ensures) ((c .before .if1) .left)
-
 place-requires : tie.Need-place-requires
 place-requires c κs = page-pass _ _ _ _ _ ((c .before .before .before .check) .ensures) ((c .before .before .if1) .left)
 
@@ -28,4 +25,4 @@ pub drop-spec : {M : Type 1} → statement M
 drop-spec =
     tie.close
     (tie.spec
-    (λ c κs. search needs) (λ c κs. search needs) returns all-places-requires place-requires drop-at-requires (λ c. search needs) returns-2)
+    (λ c κs. search needs) (λ c κs. search needs) returns (λ c κs. search needs) place-requires drop-at-requires (λ c. search needs) returns-2)

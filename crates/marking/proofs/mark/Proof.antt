@@ -7,9 +7,6 @@ use Rattle.marking.proofs.mark.Tie as tie
 returns : tie.Need-returns
 returns c = mark-refused _ _ _ _ _ ((c .before .check) .ensures) _ _ ((c .before .before .before .lent) .ensures) ((c .if1) .taken)
 
-all-places-requires : tie.Need-all-places-requires
-all-places-requires c κs = sizes-pass _ _ _ _ _ ((c .before .check) .ensures) ((c .if1) .left)
-
 place-requires : tie.Need-place-requires
 place-requires c κs = first-pass _ _ _ _ _ ((c .before .before .before .check) .ensures) ((c .before .before .if1) .left)
 
@@ -33,5 +30,5 @@ pub mark-spec : {M : Type 1} → statement M
 mark-spec =
     tie.close
     (tie.spec
-    (λ c κs. search needs) (λ c κs. search needs) returns all-places-requires place-requires place-requires-2 mark-at-requires (λ c. search needs)
+    (λ c κs. search needs) (λ c κs. search needs) returns (λ c κs. search needs) place-requires place-requires-2 mark-at-requires (λ c. search needs)
     returns-2)

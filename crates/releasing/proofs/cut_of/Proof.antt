@@ -9,9 +9,6 @@ use Rattle.releasing.proofs.cut_of.Tie as tie
 returns : tie.Need-returns
 returns c = cut-refused _ _ _ _ _ _ _ _ _ (c .before .check .ensures) (c .if1 .taken)
 
-all-places-requires : tie.Need-all-places-requires
-all-places-requires c κs = ready _ _ _ _ (sym (c .before .check .ensures) ∙ (c .if1) .left) .sizes-ok
-
 place-requires : tie.Need-place-requires
 place-requires c κs = page-known _ _ _ _ (ready _ _ _ _ (sym (c .before .before .check .ensures) ∙ (c .before .if1) .left))
 
@@ -44,5 +41,5 @@ pub cut-of-spec : {M : Type 1} → statement M
 cut-of-spec =
     tie.close
     (tie.spec
-    (λ c κs. search needs) returns all-places-requires place-requires (λ c κs. search needs) (λ c. search needs) cut-at-requires (λ c. search needs)
+    (λ c κs. search needs) returns (λ c κs. search needs) place-requires (λ c κs. search needs) (λ c. search needs) cut-at-requires (λ c. search needs)
     (λ c. search needs) returns-2 returns-3 returns-4)

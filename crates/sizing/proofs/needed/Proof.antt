@@ -13,9 +13,6 @@ returns-2 : tie.Need-returns-2
 returns-2 c = c .no-sizes2 .ensures ∙ too-large _ _ _ _ _ (c .before .before .before .before .before .before .of .ensures) _
     (c .before .before .before .before .size .given .1) (failed (c .before .before .sizes-ok .ensures) (c .before .if1 .taken))
 
-all-places-requires : tie.Need-all-places-requires
-all-places-requires c κs = held (c .before .sizes-ok .ensures) (c .if1 .left)
-
 index-words-requires : tie.Need-index-words-requires
 index-words-requires c κs = rw (c .all-places .ensures) (countable _ (held (c .before .before .sizes-ok .ensures) (c .before .if1 .left)))
 
@@ -34,4 +31,4 @@ needed-spec =
     tie.close
     (tie.spec
     (λ c κs. search needs) (λ c. search needs) (λ c. search needs) (λ c κs. search needs) returns (λ c κs. search needs) (λ c κs. search needs)
-    returns-2 all-places-requires index-words-requires (λ c κs. search needs) ram-bytes-requires returns-3)
+    returns-2 (λ c κs. search needs) index-words-requires (λ c κs. search needs) ram-bytes-requires returns-3)
