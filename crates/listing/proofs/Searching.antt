@@ -7,7 +7,8 @@ use native.Mathlib.Omega.{arith}
 use lib.ListN.{length}
 use Rattle.places.specs.Places.{lastBelow, wordsRead}
 use Rattle.places.specs.Laws.{Last, below-last, below-none}
-use Rattle.index.specs.Answers.{check, unless, unread, foundAt, find}
+use Rattle.extent.specs.Checks.{check}
+use Rattle.index.specs.Answers.{unless, unread, foundAt, find}
 use Rattle.index.specs.Promise.{Sought, Bounded}
 use Rattle.index.specs.declared.Found.{Found}
 use Rattle.index.specs.declared.Found.the-variants as found-is

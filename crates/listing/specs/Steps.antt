@@ -5,7 +5,7 @@ use mathlib.Core.List.{List, [], _∷_, _++_}
 use Prim.Native.Nat.{ℕ, _+_, _*_, _≤_, _<_}
 use lib.ListN.{length, drop, set}
 use Rattle.places.specs.Laws.{Last}
-use Rattle.index.specs.Answers.{check}
+use Rattle.extent.specs.Checks.{check}
 use Rattle.index.specs.Words.{IndexOf}
 use Rattle.machine.specs.Machine.{State, isStart, region, list}
 use Rattle.machine.specs.Answers.{listedSays}

@@ -8,7 +8,7 @@ use borrow.Author.Tests.{lt-leb, le-leb, ltb-true, lt-ltb}
 use lib.Dec.{ltb}
 use lib.ListN.{length}
 use Rattle.places.specs.Places.{size}
-use Rattle.index.specs.Answers.{check, placesOk}
+use Rattle.extent.specs.Checks.{check, placesOk}
 use Rattle.index.specs.declared.Found as found
 use Rattle.index.specs.declared.Found.the-variants as found-is
 use Rattle.machine.specs.declared.PageCall.the-variants.{Look}

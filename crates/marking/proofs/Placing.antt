@@ -5,7 +5,7 @@ use mathlib.Core.List.{List}
 use Prim.Native.Nat.{ℕ, zero, suc, _≤_, _<_}
 use borrow.Author.Tests.{lt-leb, le-leb}
 use lib.ListN.{length}
-use Rattle.index.specs.Answers as index
+use Rattle.extent.specs.Checks as extent
 use Rattle.index.specs.Promise.{Put, Asked, Sought}
 use Rattle.index.specs.declared.Change.{Change}
 use Rattle.index.specs.declared.Found.{Found}
@@ -21,7 +21,7 @@ use Rattle.marking.specs.Steps.{CutPages, Around, MarkedAt, DroppedAt}
 -- ---- the region that a start would cut
 
 module _ (t p : ℕ) (ws : List ℕ) (r : Found) (sought : Sought t p ws r) where
-  pub found-low : index.check (length ws) t p ≡ 0 → (a c : ℕ) → r ≡ found-is.Start a c → a ≤ p
+  pub found-low : extent.check (length ws) t p ≡ 0 → (a c : ℕ) → r ≡ found-is.Start a c → a ≤ p
   found-low pass a c e = (rw (pass, e) at (sought .any)) .0
 
   module _ (lo : ℕ) (count : List ℕ) where

@@ -13,6 +13,7 @@ use lib.Seq.{getD-set-same, getD-set-other}
 use Rattle.places.specs.Places.{put, lastBelow, size}
 use Rattle.places.specs.Laws.{below-last}
 use Rattle.places.specs.Sets.{put-here, put-other}
+use Rattle.extent.specs.Checks as extent
 use Rattle.index.specs.Answers as index
 use Rattle.index.specs.declared.Change.{Change}
 use Rattle.index.specs.declared.Change.the-variants as change-is
@@ -200,7 +201,7 @@ module _ (i b : ℕ) (k : Memory) where
     low : (m : State) → Holds m k → placeOf (m .sizes) i b < places (m .sizes)
     low m h = as-machine m h (λ z. placeOf z i b < places z) (w .place)
 
-    checked : index.check (length (k .index)) (places z) here ≡ 0
+    checked : extent.check (length (k .index)) (places z) here ≡ 0
     checked = check-passes z (w .sizes-ok) (length (k .index)) (w .lent .index lent) here (w .place)
 
     -- the index says of the place whether it is a start, and on honest memory what the machine says

@@ -3,7 +3,7 @@ use mathlib.Core.Path.{_≡_}
 use mathlib.Core.List.{List}
 use Prim.Native.Nat.{ℕ, _≤_, _<_}
 use lib.ListN.{length}
-use Rattle.index.specs.Answers as index
+use Rattle.extent.specs.Checks as extent
 use Rattle.index.specs.Promise.{Sought}
 use Rattle.index.specs.declared.Found.{Found}
 use Rattle.machine.specs.Machine.{places, Answer}
@@ -13,7 +13,7 @@ use Rattle.marking.specs.Models.{cutCount, withIndex, AsksStart, MarkIf,
 
 -- place p of t, where the index and the counts are long enough
 pub record Searchable (t p : ℕ) (ws count : List ℕ) : Type 0 where
-  pub check-passes : index.check (length ws) t p ≡ 0
+  pub check-passes : extent.check (length ws) t p ≡ 0
   pub inside : p < t
   pub few : t ≤ 262144
   pub count-long : t ≤ length count

@@ -8,7 +8,7 @@ use native.Mathlib.Omega.{arith}
 use borrow.Author.Tests.{ltb-true, leb-false}
 use lib.Dec.{eqb, leb, ltb}
 use lib.ListN.{length}
-use Rattle.index.specs.Answers as index
+use Rattle.extent.specs.Checks as extent
 use Rattle.index.specs.declared.Found.{Found}
 use Rattle.index.specs.declared.Found.the-variants as found-is
 use Rattle.index.specs.Promise.{Bounded}
@@ -51,7 +51,7 @@ found-low t lo p a c (found-is.Start q w) l e = go (leb lo q) e
 found-low t lo p a c (found-is.Missing w) l e = absurd (let z : _≡_ {A = ℕ} 0 1 = cc in omega arith)
 found-low t lo p a c (found-is.Refused n w) l e = absurd l
 
-seen-low : (f t lo p : ℕ) (ws table : List ℕ) (b : Bool) (a c : ℕ) → index.check (length ws) t p ≡ 0 → SeenIf b f t lo p ws table (sight-is.Unmapped a c)
+seen-low : (f t lo p : ℕ) (ws table : List ℕ) (b : Bool) (a c : ℕ) → extent.check (length ws) t p ≡ 0 → SeenIf b f t lo p ws table (sight-is.Unmapped a c)
     → a ≤ p
 seen-low f t lo p ws table true a c e seen = go (ltb (at table p) f) seen
   where
