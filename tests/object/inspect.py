@@ -20,7 +20,7 @@ import subprocess
 import sys
 
 KERNEL_HAS = {"memmove", "memset"}
-BIT_LOOPS = {"index::find": 64}  # functions whose loops all go over the bits of one word, and how often at most
+BIT_LOOPS = {"index::find_checked": 64}  # functions whose loops all go over the bits of one word, and how often at most
 WIDTHS = {
     "rax": "eax ax al ah", "rbx": "ebx bx bl bh", "rcx": "ecx cx cl ch", "rdx": "edx dx dl dh",
     "rsi": "esi si sil", "rdi": "edi di dil", "rbp": "ebp bp bpl", "rsp": "esp sp spl",

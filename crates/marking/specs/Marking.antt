@@ -13,16 +13,13 @@ use lib.Seq.{getD-set-same, getD-set-other}
 use Rattle.places.specs.Places.{put, lastBelow, size}
 use Rattle.places.specs.Laws.{below-last}
 use Rattle.places.specs.Sets.{put-here, put-other}
-use Rattle.extent.specs.Checks as extent
-use Rattle.index.specs.Answers as index
+use Rattle.layer.specs.Words.{bitAt}
+use Rattle.layer.specs.declared.Greatest.{Greatest}
+use Rattle.index.specs.Answers.{answerOf, greatestAt}
 use Rattle.index.specs.declared.Change.{Change}
 use Rattle.index.specs.declared.Change.the-variants as change-is
-use Rattle.index.specs.declared.Membership.{Membership}
-use Rattle.index.specs.declared.Membership.the-variants as membership-is
-use Rattle.index.specs.declared.Found.{Found}
-use Rattle.index.specs.Words.{bitAt}
 use Rattle.index.specs.Promise.{Put, Sought}
-use Rattle.index.specs.Laws.{index-front, index-bit, index-ext}
+use Rattle.index.specs.Laws.{index-front, index-bit, index-ext, greatest-is}
 use Rattle.machine.specs.Machine.{Sizes, places, placeOf, State, Pair, isStart, region, startOf, notBelow, wordsAt, Lent}
 use Rattle.machine.specs.Machine.{Uses, uses, Call, mark, drop, facts, asked, Answer, done, refused, tell, withStart, unlessResident, markCut}
 use Rattle.machine.specs.Machine.{markAt, dropAt, accepted, step, answer, after, ended}
@@ -35,9 +32,8 @@ use Rattle.memory.specs.Memory.{Memory, at, sizesOf, lengths}
 use Rattle.promise.specs.Holds.{Holds}
 use Rattle.promise.specs.Did.{Later, Marks, Bounds, Did}
 use Rattle.laws.specs.Models.{Refuses, markLengths}
-use Rattle.marking.specs.Models.{cutCount, countIn, withIndex, Puts, PutsUnless, MarkIf, DropIf, AsksStart, MarkDone, DropDone}
-use Rattle.starting.specs.Models.{changeSays}
-use Rattle.laws.specs.Refusals.{words-none, MayKeep, begins-none, passed-step, kept-did, checked-did, Admitted, admitted, check-passes}
+use Rattle.marking.specs.Models.{cutCount, countIn, withIndex, Puts, PutsUnless, MarkIf, DropIf, MarkDone, DropDone}
+use Rattle.laws.specs.Refusals.{words-none, MayKeep, begins-none, passed-step, kept-did, checked-did, Admitted, admitted}
 use Rattle.laws.specs.Finds.{index-passes, sought-is, start-is}
 use Rattle.laws.specs.Checks.{page-check}
 
@@ -121,7 +117,7 @@ module _ (m : State) (k : Memory) (h : Holds m k) (i b : ℕ) (low : placeOf (m 
   p = placeOf (m .sizes) i b
 
   cut-found : (o : Option ℕ) → lastBelow (isStart m) (suc p) ≡ o
-      → cutCount (placeOf (m .sizes) i 0) (k .count) (index.foundAt o (wordsAt m p)) ≡ length (wayOf m (notBelow (placeOf (m .sizes) i 0) o))
+      → cutCount (placeOf (m .sizes) i 0) (k .count) (greatestAt o (wordsAt m p)) ≡ length (wayOf m (notBelow (placeOf (m .sizes) i 0) o))
   cut-found none e = refl
   cut-found (some a) e = go (leb (placeOf (m .sizes) i 0) a)
     where
@@ -129,9 +125,11 @@ module _ (m : State) (k : Memory) (h : Holds m k) (i b : ℕ) (low : placeOf (m 
       go true = h .counts a (omega (arith, below-last (isStart m) (suc p) a e .low))
       go false = refl
 
-  cut-is : (found : Found) → Sought (places (m .sizes)) p (k .index) found
+  cut-is : (found : Greatest) → Sought (places (m .sizes)) p (k .index) (answerOf found)
       → cutCount (placeOf (m .sizes) i 0) (k .count) found ≡ length (wayOf m (startOf m p))
-  cut-is found w = rw (sought-is m k h p low found w, start-is m i b in-pages) (cut-found (lastBelow (isStart m) (suc p)) refl)
+  cut-is found w =
+      let o = lastBelow (isStart m) (suc p) in
+      rw (greatest-is found o (wordsAt m p) (sought-is m k h p low (answerOf found) w), start-is m i b in-pages) (cut-found o refl)
 
 -- what the machine does where a region of n resident pages is in the way
 record Cut (m : State) (c : Call) (v : Bool) (p n : ℕ) : Type 0 where
@@ -193,28 +191,22 @@ module _ (i b : ℕ) (k : Memory) where
   as-head : (m : State) → Holds m k → (P : Sizes → Type 0) → P (m .sizes) → P z
   as-head m h P x = subst P (sym (h .sizes-are)) x
 
-  -- a call that passed, and is lent the index
-  module _ (c : Lent → Call) (pass : asked z (c (lengths k)) ≡ 0) (u : Uses) (w : Admitted z u i b (lengths k)) (lent : u .index ≡ true) where
+  -- a call that passed
+  module _ (c : Lent → Call) (pass : asked z (c (lengths k)) ≡ 0) (u : Uses) (w : Admitted z u i b (lengths k)) where
     passed-as : (m : State) → Holds m k → step m (c (lengths k)) ≡ accepted m (c (lengths k))
     passed-as m h = passed-step m (c (lengths k)) (as-machine m h (λ z. asked z (c (lengths k)) ≡ 0) pass)
 
     low : (m : State) → Holds m k → placeOf (m .sizes) i b < places (m .sizes)
     low m h = as-machine m h (λ z. placeOf z i b < places z) (w .place)
 
-    checked : extent.check (length (k .index)) (places z) here ≡ 0
-    checked = check-passes z (w .sizes-ok) (length (k .index)) (w .lent .index lent) here (w .place)
-
-    -- the index says of the place whether it is a start, and on honest memory what the machine says
-    by-start : (then : Membership → Type 0) (D : Type 0) → AsksStart here k then
-        → ((s : Bool) → Says s → then (index.memberIf s) → D) → D
+    -- the place's bit says whether it is a start, and on honest memory what the machine says
+    by-start : (then : Bool → Type 0) (D : Type 0) → then (bitAt (k .index) here) → ((s : Bool) → Says s → then s → D) → D
     by-start then D d go =
-        let e : d .is-set ≡ index.memberIf (bitAt (k .index) here) =
-        d .set-asked .any ∙ ap (λ n. index.unless membership-is.Refused n (index.memberIf (bitAt (k .index) here))) checked in
         go (bitAt (k .index) here)
         (λ m h.
         as-head m h (λ z. isStart m (placeOf (m .sizes) i b) ≡ bitAt (k .index) (placeOf z i b))
         (sym (index-bit (places (m .sizes)) (isStart m) (k .index) (h .index-is) (placeOf (m .sizes) i b) (low m h))))
-        (rw e at (d .done-then))
+        d
 
     refuses-did : MayKeep (c (lengths k)) → (n : ℕ) (a : Answer) (k′ : Memory) → Later z (c (lengths k)) (refused n) → Refuses (refused n) k a k′
         → ((m : State) → Holds m k → step m (c (lengths k)) ≡ tell m (refused n)) → Did c k a k′
@@ -227,18 +219,17 @@ module _ (i b : ℕ) (k : Memory) where
         (kind : facts (c (lengths k)) .kind ≡ ended) where
       put-did : (a : Answer) (k′ : Memory) → Puts v here k a k′ → ((m : State) → Holds m k → Cut m (c (lengths k)) v (placeOf (m .sizes) i b) 0) → Did c k a k′
       put-did a k′ d cut =
-          let done-is : a ≡ done = d .answer-is ∙ ap changeSays (d .put .answer ∙ ap (λ n. index.unless change-is.Refused n change-is.Done) checked) in
-          rw (done-is, d .after-is)
+          rw (d .answer-is, d .after-is)
           (record {
             asks = rw pass kind;
             stays = λ e. absurd (false≢true e);
-            bounds = bounds (withIndex k (d .words)) (put-marks k v here (d .change) (d .words) (d .put));
+            bounds = bounds (withIndex k (d .words)) (put-marks k v here change-is.Done (d .words) (d .put));
             honest = λ m h.
                 let (o, spares) = cut-clear m (c (lengths k)) v (placeOf (m .sizes) i b) (cut m h) in
-                let put-is = as-machine m h (λ z. Put v (places z) (placeOf z i b) (k .index) (d .change) (d .words)) (d .put) in
+                let put-is = as-machine m h (λ z. Put v (places z) (placeOf z i b) (k .index) change-is.Done (d .words)) (d .put) in
                 record {
                   answer-is = sym (ap (λ r. r .answer) o);
-                  holds = subst (λ r. Holds (r .after) (withIndex k (d .words))) (sym o) (put-holds m k h _ (low m h) v (d .change) (d .words) put-is spares);
+                  holds = subst (λ r. Holds (r .after) (withIndex k (d .words))) (sym o) (put-holds m k h _ (low m h) v _ (d .words) put-is spares);
                 };
             begins = begins-none (facts (c (lengths k)) .begins) _ k done _ (λ _. keeps .1);
           })
@@ -254,27 +245,27 @@ module _ (i b : ℕ) (k : Memory) where
       checked-did (mark i b) k _ (page-check k i b Mark (markLengths k) refl) _ a k′ d (λ pass r. go pass (admitted z Mark i b (lengths k) pass) r)
     where
       go : asked z (mark i b (lengths k)) ≡ 0 → Admitted z (uses (mark i b (lengths k))) i b (lengths k)
-          → AsksStart here k (λ s. MarkIf s here (placeOf z i 0) k a k′) → Did (mark i b) k a k′
-      go pass w d = by-start (mark i b) pass _ w refl (λ s. MarkIf s here (placeOf z i 0) k a k′) _ d then
+          → MarkIf (bitAt (k .index) here) here (placeOf z i 0) k a k′ → Did (mark i b) k a k′
+      go pass w d = by-start (mark i b) pass _ w (λ s. MarkIf s here (placeOf z i 0) k a k′) _ d then
         where
           marks : (s : Bool) → Says s → (m : State) → Holds m k
               → let p = placeOf (m .sizes) i b in step m (mark i b (lengths k)) ≡ markAt m p (startOf m p) s
-          marks s is m h = passed-as (mark i b) pass _ w refl m h ∙ ap (markAt m _ _) (is m h)
+          marks s is m h = passed-as (mark i b) pass _ w m h ∙ ap (markAt m _ _) (is m h)
 
-          then : (s : Bool) → Says s → MarkIf (index.memberIf s) here (placeOf z i 0) k a k′ → Did (mark i b) k a k′
-          then true is d = refuses-did (mark i b) pass _ w refl (tt, tt) 6 a k′ (inl refl, refl) d (marks true is)
+          then : (s : Bool) → Says s → MarkIf s here (placeOf z i 0) k a k′ → Did (mark i b) k a k′
+          then true is d = refuses-did (mark i b) pass _ w (tt, tt) 6 a k′ (inl refl, refl) d (marks true is)
           then false is d =
-              cut-did (mark i b) pass _ w refl true (λ k′ x. x) (tt, tt) refl (inr (inl refl), refl) _ a k′ (d .done-then)
+              cut-did (mark i b) pass _ w true (λ k′ x. x) (tt, tt) refl (inr (inl refl), refl) _ a k′ (d .done-then)
               (λ m h.
               let p = placeOf (m .sizes) i b in
               record {
                 way = wayOf m (startOf m p);
                 many =
                     as-head m h (λ z. cutCount (placeOf z i 0) (k .count) (d .found) ≡ length (wayOf m (startOf m p)))
-                    (cut-is m k h i b (low (mark i b) pass _ w refl m h) (as-machine m h (λ z. b < z .pages) (w .page)) (d .found)
-                    (as-machine m h (λ z. Sought (places z) (placeOf z i b) (k .index) (d .found)) (d .sought)));
+                    (cut-is m k h i b (low (mark i b) pass _ w m h) (as-machine m h (λ z. b < z .pages) (w .page)) (d .found)
+                    (as-machine m h (λ z. Sought (places z) (placeOf z i b) (k .index) (answerOf (d .found))) (d .sought)));
                 does = marks false is m h ∙ mark-way m p (startOf m p);
-                spares = λ e. mark-spares m p (h .sound) (low (mark i b) pass _ w refl m h) (λ a o. ap (wayOf m) (sym o) ∙ e);
+                spares = λ e. mark-spares m p (h .sound) (low (mark i b) pass _ w m h) (λ a o. ap (wayOf m) (sym o) ∙ e);
               })
 
   pub drop-did : (a : Answer) (k′ : Memory) → DropDone i b k a k′ → Did (drop i b) k a k′
@@ -283,20 +274,20 @@ module _ (i b : ℕ) (k : Memory) where
       checked-did (drop i b) k _ (page-check k i b Drop (markLengths k) refl) _ a k′ d (λ pass r. go pass (admitted z Drop i b (lengths k) pass) r)
     where
       go : asked z (drop i b (lengths k)) ≡ 0 → Admitted z (uses (drop i b (lengths k))) i b (lengths k)
-          → AsksStart here k (λ s. DropIf s here k a k′) → Did (drop i b) k a k′
-      go pass w d = by-start (drop i b) pass _ w refl (λ s. DropIf s here k a k′) _ d then
+          → DropIf (bitAt (k .index) here) here k a k′ → Did (drop i b) k a k′
+      go pass w d = by-start (drop i b) pass _ w (λ s. DropIf s here k a k′) _ d then
         where
           drops : (s : Bool) → Says s → (m : State) → Holds m k
               → let p = placeOf (m .sizes) i b in step m (drop i b (lengths k)) ≡ dropAt m p s
-          drops s is m h = passed-as (drop i b) pass _ w refl m h ∙ ap (dropAt m _) (is m h)
+          drops s is m h = passed-as (drop i b) pass _ w m h ∙ ap (dropAt m _) (is m h)
 
-          then : (s : Bool) → Says s → DropIf (index.memberIf s) here k a k′ → Did (drop i b) k a k′
-          then false is d = refuses-did (drop i b) pass _ w refl (tt, tt) 5 a k′ (inl refl, refl) d (drops false is)
+          then : (s : Bool) → Says s → DropIf s here k a k′ → Did (drop i b) k a k′
+          then false is d = refuses-did (drop i b) pass _ w (tt, tt) 5 a k′ (inl refl, refl) d (drops false is)
           then true is d =
-              cut-did (drop i b) pass _ w refl false (λ k′ x. x) (tt, tt) refl (inr (inl refl), refl) _ a k′ d
+              cut-did (drop i b) pass _ w false (λ k′ x. x) (tt, tt) refl (inr (inl refl), refl) _ a k′ d
               (λ m h.
               let p = placeOf (m .sizes) i b in
-              let inside = low (drop i b) pass _ w refl m h in
+              let inside = low (drop i b) pass _ w m h in
               record {
                 way = region m p;
                 many = as-head m h (λ z. at (k .count) (placeOf z i b) ≡ length (region m p)) (h .counts p inside);

@@ -2,11 +2,9 @@
 use checks::all_places;
 use checks::check;
 use checks::place;
-use index::Found;
-use index::Membership;
+use layer::Greatest;
 use machine::Done;
 use memory::Head;
-use starting::changed;
 use starting::lent;
 ghost use mathlib.Core.List.{List};
 ghost use Prim.Native.Nat.{ℕ};
@@ -21,15 +19,14 @@ fn cut_pages(index: &[u64], count: &[u32], t: usize, lo: usize, p: usize) -> u32
     requires { ⌜ Searchable t p (now index) (now count) ⌝ }
     ensures { λ r. ⌜ CutPages t lo p (now (index .entry)) (now (count .entry)) r ⌝ }
 {
-    match index::find(index, t, p) {
-        Found::Start(a, _) => {
+    match index::find_checked(index, t, p) {
+        Greatest::Place(a, _) => {
             if lo <= a {
                 return count[a];
             }
             0
         }
-        Found::Missing(_) => 0,
-        Found::Refused(_, _) => 1,
+        Greatest::Nothing(_) => 0,
     }
 }
 
@@ -38,16 +35,14 @@ fn mark_at(index: &mut [u64], count: &[u32], t: usize, lo: usize, p: usize) -> D
     requires { ⌜ Searchable t p (now index) (now count) ⌝ }
     ensures { λ r. ⌜ MarkedAt t lo p (now (index .entry)) (now (count .entry)) (doneSays r) (now (index .exit)) ⌝ }
 {
-    match index::is_set(index, t, p) {
-        Membership::Member => Done::Refused(6),
-        Membership::Absent => {
-            if cut_pages(index, count, t, lo, p) != 0 {
-                return Done::Refused(7);
-            }
-            changed(index::set(index, t, p))
-        }
-        Membership::Refused(_) => Done::Refused(9),
+    if layer::bit_at(index, p) {
+        return Done::Refused(6);
     }
+    if cut_pages(index, count, t, lo, p) != 0 {
+        return Done::Refused(7);
+    }
+    index::put_checked(index, t, p, true);
+    Done::Ok
 }
 
 // Adds a start.
@@ -82,16 +77,14 @@ fn drop_at(index: &mut [u64], count: &[u32], t: usize, p: usize) -> Done
     requires { ⌜ Searchable t p (now index) (now count) ⌝ }
     ensures { λ r. ⌜ DroppedAt t p (now (index .entry)) (now (count .entry)) (doneSays r) (now (index .exit)) ⌝ }
 {
-    match index::is_set(index, t, p) {
-        Membership::Member => {
-            if count[p] != 0 {
-                return Done::Refused(7);
-            }
-            changed(index::clear(index, t, p))
-        }
-        Membership::Absent => Done::Refused(5),
-        Membership::Refused(_) => Done::Refused(9),
+    if !layer::bit_at(index, p) {
+        return Done::Refused(5);
     }
+    if count[p] != 0 {
+        return Done::Refused(7);
+    }
+    index::put_checked(index, t, p, false);
+    Done::Ok
 }
 
 // Removes a start whose region has no resident page.
