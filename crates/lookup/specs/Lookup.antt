@@ -3,7 +3,7 @@ use mathlib.Core.Path.{_≡_, refl, sym, ap, _∙_, subst}
 use mathlib.Core.Bool.{Bool, true, false, cond, true≢false}
 use mathlib.Core.Option.{Option, none, some}
 use mathlib.Core.List.{List}
-use Prim.Native.Nat.{ℕ, suc, _+_, _≤_, _<_}
+use Prim.Native.Nat.{ℕ, suc, _+_, _*_, _%_, _≤_, _<_}
 use native.Mathlib.Omega.{arith}
 use borrow.Author.Tests.{leb-true, ltb-true, eqb-true, le-leb, lt-ltb, eq-eqb}
 use lib.Dec.{leb}
@@ -11,13 +11,14 @@ use lib.ListN.{length, getD}
 use Rattle.places.specs.Places.{lastBelow}
 use Rattle.index.specs.Answers as index
 use Rattle.machine.specs.Machine.{Sizes, places, placeOf, State, isStart, region, startOf, notBelow, frameIn, wordsAt, outside, unmapped, mapped, pageOf}
-use Rattle.machine.specs.Machine.{pageAt}
+use Rattle.machine.specs.Machine.{pageAt, pageOfAddress, ramAt}
 use Rattle.machine.specs.Claims.{noPair}
 use Rattle.machine.specs.Laws.Sizes.{both, place-below}
 use Rattle.machine.specs.Laws.Regions.{owner-of}
 use Rattle.machine.specs.Laws.Lookup.{Entry, frame-in, not-in, Mapped, mapped-is, unmapped-is}
 use Rattle.machine.specs.Laws.Holders.{frame-below}
-use Rattle.memory.specs.Memory.{Memory, at}
+use Rattle.machine.specs.Laws.Bytes.{ram-mapped}
+use Rattle.memory.specs.Memory.{Memory, at, sizesOf}
 use Rattle.lookup.specs.declared.Sight.{Sight}
 use Rattle.lookup.specs.declared.Sight.the-variants as sight-is
 use Rattle.promise.specs.Holds.{Holds, Placed}
@@ -107,6 +108,21 @@ module _ (m : State) (k : Memory) (h : Holds m k) where
       go none e = refl
       go (some f) e =
           absurd (true≢false (sym (mapped-resident p a f (record { region-is = own; frame-is = e })) ∙ fails))
+
+  -- the page table has the frame of a page that is mapped
+  pub table-frame : (p a f : ℕ) → Mapped m p a f → (at (k .table) p ≡ f) × (f < m .sizes .frames)
+  table-frame p a f e = let x = frame-in p f (region m a) (e .frame-is) in (entry-placed a p f x .table-is, frame-below m (h .sound) a p f x)
+
+  -- so where an address of such a page is, the table's word tells alone
+  pub table-place : (i x a f : ℕ) → Mapped m (pageOfAddress (m .sizes) i x) a f
+      → let z = sizesOf (k .head) in
+      let g = at (k .table) (pageOfAddress z i x) in
+      (g < z .frames) × (ramAt m i x ≡ some (g * z .page + x % z .page))
+  table-place i x a f e =
+      let (is, below) = table-frame (pageOfAddress (m .sizes) i x) a f e in
+      subst
+      (λ (z : Sizes). (at (k .table) (pageOfAddress z i x) < z .frames) × (ramAt m i x ≡ some (at (k .table) (pageOfAddress z i x) * z .page + x % z .page)))
+      (sym (h .sizes-are)) (omega arith, ram-mapped m i x a f e ∙ ap (λ (g : ℕ). some (g * m .sizes .page + x % m .sizes .page)) (sym is))
 
 -- ---- what is seen
 

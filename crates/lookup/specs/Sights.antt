@@ -17,7 +17,7 @@ use Rattle.machine.specs.Laws.Sizes.{fit, some-places, place-below}
 use Rattle.memory.specs.Memory.{Memory, memory, at, sizesOf, lengths}
 use Rattle.memory.specs.declared.Head.{Head}
 use Rattle.lookup.specs.declared.Sight.{Sight}
-use Rattle.lookup.specs.declared.Sight.the-variants.{Mapped, Unmapped, Outside, Broken}
+use Rattle.lookup.specs.declared.Sight.the-variants.{Mapped, Unmapped, Outside}
 use Rattle.promise.specs.Shown.{residentOk, frameOf}
 use Rattle.lookup.specs.Models.{sightMapped, sightFound, Searched, Seen, lookSays}
 use Rattle.laws.specs.Models.{lookLengths, checkOf}
@@ -45,9 +45,6 @@ module _ (lo : ℕ) (r : found.Found) where
 
   pub none-found : (c : ℕ) → r ≡ found-is.Missing c → Outside c ≡ sightFound lo r
   none-found c e = rw e
-
-  pub never-found : (k c : ℕ) → r ≡ found-is.Refused k c → Broken ≡ sightFound lo r
-  never-found k c e = rw e
 
 -- ---- the page of a call that passed the checks
 
@@ -111,6 +108,15 @@ frame-seen h i b index count table helper stack cache {r} is l =
         → SeenOf h i b index count table helper stack cache (Mapped r)
     go true e at-p = seen-mapped h i b index count table helper stack cache _ _ _ refl refl refl true (Mapped r) e refl (rw (← at-p, lt-ltb r (h .frames) l))
     go false e at-p = absurd (omega (arith, at-p, l))
+
+-- and the page table's word
+pub frame-is : (h : Head) (i b : ℕ) (count table helper stack cache : List ℕ) {r : ℕ} → r ≡ frameOf h i b count table helper stack cache → r < h .frames
+    → r ≡ at table (placeOf (sizesOf h) i b)
+frame-is h i b count table helper stack cache {r} is l = go (residentOk count helper stack cache (places (sizesOf h)) (placeOf (sizesOf h) i b)) is
+  where
+    go : (x : Bool) → r ≡ cond x (at table (placeOf (sizesOf h) i b)) (h .frames) → r ≡ at table (placeOf (sizesOf h) i b)
+    go true e = e
+    go false e = absurd (omega (arith, e, l))
 
 -- ---- look
 

@@ -1,112 +1,66 @@
 // Reading bytes through the pager. The checks are made once, then pages are looked up by look's own promise, and a
-// page's part of the RAM is copied at once, from where translate has it.
+// page's part of the RAM is copied at once, from the frame that the page table has.
 use checks::check;
 use checks::span_inside;
 use copying::copy;
 use lookup::look_checked;
 use machine::Copied;
 use machine::Looked;
-use machine::Translated;
 use memory::ANY;
 use memory::Head;
 use memory::Lengths;
 use spans::absence;
+use spans::frame_at;
 use spans::page_of;
 use spans::part;
-use translating::translate_checked;
+use spans::ram_place;
+ghost use mathlib.Core.Path.{_≡_};
 ghost use mathlib.Core.List.{List};
-ghost use Prim.Native.Nat.{ℕ};
-ghost use lib.ListN.{length};
-ghost use Rattle.memory.specs.Memory.{memory};
+ghost use Prim.Native.Nat.{ℕ, _<_, _≤_};
+ghost use lib.ListN.{length, take, drop};
+ghost use Rattle.machine.specs.Machine.{places};
+ghost use Rattle.memory.specs.Memory.{memory, sizesOf};
 ghost use Rattle.promise.specs.Filled.{ReadDid};
-ghost use Rattle.laws.specs.Parts.{CopiedOut};
-ghost use Rattle.lookup.specs.Ready.{Lookable};
-ghost use Rattle.spans.specs.Parts.{Span, Part};
+ghost use Rattle.spans.specs.Parts.{Span, Part, placeIn};
+ghost use Rattle.reading.specs.Copies.{CopiedBy};
 
-// The bytes from address x on, all of one page, into dst, if the page is resident.
-fn read_part(
-    head: Head,
-    space: u32,
-    x: usize,
-    dst: &mut [u8],
-    index: &[u64],
-    count: &[u32],
-    table: &[u32],
-    helper: &[u32],
-    stack: &[u32],
-    cache: &[u32],
-    ram: &[u8],
-)
-    requires { ⌜ Part head space x (length (now dst)) (now ram) × Lookable head space (now index) (now count) (now table) (now helper) (now stack)
-        (now cache) ⌝ }
-    ensures { λ _. ⌜ ((link : List ℕ) →
-        CopiedOut
-        (memory head (now (index .entry)) (now (count .entry)) (now (table .entry)) (now (helper .entry)) (now (stack .entry)) (now (cache .entry)) link
-        (now (ram .entry)))
-        space x (length (now (dst .entry))) (now (dst .exit))) ⌝ }
+// The bytes from address x on, all of one page, out of the page's frame.
+fn copy_frame(head: Head, frame: u32, x: usize, dst: &mut [u8], ram: &[u8])
+    requires { ⌜ ((i : ℕ) × Part head i x (length (now dst)) (now ram)) × (frame < head .frames) ⌝ }
+    ensures { λ _. ⌜ now (dst .exit) ≡ take (length (now (dst .entry))) (drop (placeIn head frame x) (now (ram .entry))) ⌝ }
 {
-    let Translated::At(from) = translate_checked(
-        head,
-        space,
-        x,
-        index,
-        count,
-        table,
-        helper,
-        stack,
-        cache,
-    ) else {
-        return;
-    };
+    let from = ram_place(head, frame, x);
     let to = from + dst.len();
     copy(&ram[from..to], dst);
 }
 
+// The bytes from address x on, all of one page, into dst, if the page is resident.
+fn read_part(head: Head, space: u32, x: usize, dst: &mut [u8], table: &[u32], ram: &[u8])
+    requires { ⌜ Part head space x (length (now dst)) (now ram) × (places (sizesOf head) ≤ length (now table)) ⌝ }
+    ensures { λ _. ⌜ CopiedBy head (now (table .entry)) (now (ram .entry)) space x (length (now (dst .entry))) (now (dst .exit)) ⌝ }
+{
+    let frame = frame_at(head, space, x, table);
+    if frame < head.frames {
+        copy_frame(head, frame, x, dst, ram);
+    }
+}
+
 // The bytes of a span whose pages are all resident, a page's part at a time.
-fn copy_out(
-    head: Head,
-    space: u32,
-    address: usize,
-    buffer: &mut [u8],
-    index: &[u64],
-    count: &[u32],
-    table: &[u32],
-    helper: &[u32],
-    stack: &[u32],
-    cache: &[u32],
-    ram: &[u8],
-)
-    requires { ⌜ Span head space address (length (now buffer)) (now ram) × Lookable head space (now index) (now count) (now table) (now helper) (now stack)
-        (now cache) ⌝ }
-    ensures { λ _. ⌜ ((link : List ℕ) →
-        CopiedOut
-        (memory head (now (index .entry)) (now (count .entry)) (now (table .entry)) (now (helper .entry)) (now (stack .entry)) (now (cache .entry)) link
-        (now (ram .entry)))
-        space address (length (now (buffer .entry))) (now (buffer .exit))) ⌝ }
+fn copy_out(head: Head, space: u32, address: usize, buffer: &mut [u8], table: &[u32], ram: &[u8])
+    requires { ⌜ Span head space address (length (now buffer)) (now ram) × (places (sizesOf head) ≤ length (now table)) ⌝ }
+    ensures { λ _. ⌜ CopiedBy head (now (table .entry)) (now (ram .entry)) space address (length (now (buffer .entry))) (now (buffer .exit)) ⌝ }
 {
     let n = buffer.len();
     let mut done = 0;
     while done < n {
         let x = address + done;
         let next = done + part(head, x, n - done);
-        read_part(
-            head,
-            space,
-            x,
-            &mut buffer[done..next],
-            index,
-            count,
-            table,
-            helper,
-            stack,
-            cache,
-            ram,
-        );
+        read_part(head, space, x, &mut buffer[done..next], table, ram);
         done = next;
     }
 }
 
-// The bytes of a span into the caller's buffer: every page is looked up before the first byte is copied.
+// The bytes of a span into the caller's buffer: every page is looked up before the first byte is copied. A span of one page needs no loop.
 pub fn read(
     head: Head,
     space: u32,
@@ -141,8 +95,28 @@ pub fn read(
     if no != 0 {
         return Copied::Refused(no);
     }
-    let mut page = page_of(head, address);
-    let end = page + spans::pages(head, address, n);
+    let first = page_of(head, address);
+    let pages = spans::pages(head, address, n);
+    if pages == 1 {
+        let found = look_checked(
+            head,
+            space,
+            first as u32,
+            index,
+            count,
+            table,
+            helper,
+            stack,
+            cache,
+        );
+        let Looked::Resident(frame) = found else {
+            return Copied::Refused(absence(found));
+        };
+        copy_frame(head, frame, address, buffer, ram);
+        return Copied::Copied;
+    }
+    let mut page = first;
+    let end = page + pages;
     while page < end {
         let found = look_checked(
             head,
@@ -160,18 +134,6 @@ pub fn read(
         };
         page += 1;
     }
-    copy_out(
-        head,
-        space,
-        address,
-        buffer,
-        index,
-        count,
-        table,
-        helper,
-        stack,
-        cache,
-        ram,
-    );
+    copy_out(head, space, address, buffer, table, ram);
     Copied::Copied
 }

@@ -2,14 +2,12 @@
 use mathlib.Core.Path.{_≡_, refl, sym, _∙_}
 use mathlib.Core.Bool.{Bool, true, false}
 use mathlib.Core.List.{List, []}
-use Prim.Native.Nat.{ℕ, zero, suc, _+_, _-_, _≤_, _<_}
+use Prim.Native.Nat.{ℕ, zero, suc, _+_, _-_, _/_, _≤_, _<_}
 use native.Mathlib.Omega.{arith}
 use borrow.Author.Tests.{ltb-true}
 use lib.Dec.{ltb}
 use lib.ListN.{length}
-use Rattle.index.specs.declared.Membership.{Membership}
-use Rattle.index.specs.declared.Membership.the-variants as membership-is
-use Rattle.index.specs.Promise.{Asked}
+use Rattle.layer.specs.Words.{bitAt}
 use Rattle.machine.specs.Machine.{places, placeOf, sizesOk, release, Answer, pages, refused}
 use Rattle.machine.specs.Laws.Sizes.{fit, place-below}
 use Rattle.memory.specs.Memory.{Memory, memory, at, sizesOf}
@@ -22,6 +20,8 @@ use Rattle.promise.specs.Did.{Did}
 use Rattle.laws.specs.Models.{checkOf, releaseLengths, pageInside, Checked}
 use Rattle.releasing.specs.Models.{cutOk, cutIf, cutFor, cutSays, cutLeaves, Releases}
 use Rattle.laws.specs.Checking as checking
+use Rattle.laws.specs.Refusals.{check-passes}
+use Rattle.extent.specs.Passing.{passed, word-lent}
 use Rattle.releasing.specs.Releasing.{cut-says, release-did}
 use Rattle.pool.specs.Takes.{Top}
 use Rattle.releasing.specs.Cuts.{Spliceable, Splices, CutOfIf, CutOf}
@@ -43,6 +43,13 @@ module _ (h : Head) (l : Lengths) (i b : ℕ) (y : checking.CheckPassed h l i (l
         y .lent .stack refl,
       )
 
+  -- the index has the word of the page's bit
+  pub word-known : (a : ℕ) → a ≡ placeOf (sizesOf h) i b → a / 64 < l .index
+  word-known a ea =
+      word-lent (passed (l .index) (places (sizesOf h)) a
+      (rw ea (check-passes (sizesOf h) (y .sizes-ok) (l .index) (y .lent .index refl) (placeOf (sizesOf h) i b)
+      (place-below (sizesOf h) i b (y .space) (page-known .2)))))
+
 -- ---- what is to be done, from the number of the check
 
 module _ (h : Head) (i b : ℕ) (index count table stack link : List ℕ) (n : ℕ)
@@ -50,13 +57,9 @@ module _ (h : Head) (i b : ℕ) (index count table stack link : List ℕ) (n : �
   pub cut-refused : (n ≡ 0 → ⊥) → CutOf h i b index count table stack link (cut-is.Refused n)
   cut-refused some = record { any = λ helper cache ram. checking.on-no _ cut-is.Refused _ n checked some }
 
-  pub cut-asked : n ≡ 0 → (s : Membership) (t a : ℕ) (r : Cut) → Asked t a index s → t ≡ places (sizesOf h) → a ≡ placeOf (sizesOf h) i b
-      → r ≡ cutFor s h count table stack t a → CutOf h i b index count table stack link r
-  cut-asked none s t a r asked et ea is =
-      record {
-        any = λ helper cache ram. checking.on-yes _ cut-is.Refused _ n r checked none
-            (record { is-set = s; set-asked = rw (et, ea) at asked; is = rw (et, ea) at is });
-      }
+  pub cut-asked : n ≡ 0 → (t a : ℕ) (r : Cut) → t ≡ places (sizesOf h) → a ≡ placeOf (sizesOf h) i b
+      → r ≡ cutFor (bitAt index a) h count table stack t a → CutOf h i b index count table stack link r
+  cut-asked none t a r et ea is = record { any = λ helper cache ram. checking.on-yes _ cut-is.Refused _ n r checked none (rw (et, ea) at is) }
 
 -- ---- a region to give back
 
@@ -71,10 +74,9 @@ module _ (h : Head) (count table stack : List ℕ) (t a₀ a : ℕ) where
   gives-if (suc n) true f e = record { start-is = cc; fits = f }
   gives-if (suc n) false f e = absurd (let z : _≡_ {A = ℕ} 0 1 = cc in omega arith)
 
-  gives : (s : Membership) → cutFor s h count table stack t a₀ ≡ cut-is.At a → Gives h count table stack t a₀ a
-  gives membership-is.Member e = gives-if (at count a₀) _ refl e
-  gives membership-is.Absent e = absurd (let z : _≡_ {A = ℕ} 0 1 = cc in omega arith)
-  gives (membership-is.Refused n) e = absurd (let z : _≡_ {A = ℕ} 0 1 = cc in omega arith)
+  gives : (s : Bool) → cutFor s h count table stack t a₀ ≡ cut-is.At a → Gives h count table stack t a₀ a
+  gives true e = gives-if (at count a₀) _ refl e
+  gives false e = absurd (let z : _≡_ {A = ℕ} 0 1 = cc in omega arith)
 
 top-readable : (table stack : List ℕ) (t a n : ℕ) → a + n ≤ t → at stack (a + n - 1) < t → t ≤ 262144 → t ≤ length table → t ≤ length stack
     → Top table stack a n
@@ -91,7 +93,7 @@ splice-ready h i b index count table stack link r a cut is =
     let z = sizesOf h in
     let (passes, from) = checking.on-passed _ cut-is.Refused _ r (λ n e. let z : _≡_ {A = ℕ} 0 1 = cc in omega arith) (cut .any [] [] []) in
     let y = checking.ready h (releaseLengths k) i (pageInside k b) passes in
-    let g = gives h count table stack (places z) (placeOf z i b) a (from .is-set) (sym (from .is) ∙ is) in
+    let g = gives h count table stack (places z) (placeOf z i b) a (bitAt index _) (sym from ∙ is) in
     let (low, few, long-count, long-table, long-stack) = tables-known h (releaseLengths k) i b y (places z) a refl (sym (g .start-is)) in
     let m = cut-says h table stack (places z) a (at count a) (rw (g .start-is) at (g .fits)) in
     let long-link = y .lent .link refl in
@@ -109,7 +111,7 @@ splice-ready h i b index count table stack link r a cut is =
 release-done : (n : ℕ) (k : Memory) (i b : ℕ) (r : Cut) → CutOfIf n k i b r → (a : Answer) (k′ : Memory) → a ≡ cutSays r k → k′ ≡ cutLeaves r k
     → Checked refused n (λ a k′. Releases k (placeOf (sizesOf (k .head)) i b) a k′) k a k′
 release-done zero k i b r w a k′ says leaves =
-    record { is-set = w .is-set; set-asked = w .set-asked; answer-is = rw (w .is) at says; after-is = rw (w .is) at leaves }
+    record { answer-is = rw w at says; after-is = rw w at leaves }
 release-done (suc n) k i b r w a k′ says leaves = record { answer-is = rw w at says; same = rw w at leaves }
 
 module _ (h : Head) (i b : ℕ) (index count table stack link : List ℕ) (r : Cut) (cut : CutOf h i b index count table stack link r)

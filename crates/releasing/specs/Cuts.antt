@@ -3,16 +3,14 @@ use mathlib.Core.Path.{_≡_}
 use mathlib.Core.List.{List}
 use Prim.Native.Nat.{ℕ, _+_, _≤_, _<_}
 use lib.ListN.{length, set}
-use Rattle.index.specs.declared.Membership.{Membership}
-use Rattle.index.specs.Promise.{Asked}
-use Rattle.machine.specs.Machine.{places, placeOf}
+use Rattle.machine.specs.Machine.{placeOf}
 use Rattle.memory.specs.Memory.{Memory, memory, at, sizesOf}
 use Rattle.memory.specs.declared.Head.{Head}
 use Rattle.releasing.specs.declared.Spliced.{Spliced}
 use Rattle.releasing.specs.declared.Cut.{Cut}
 use Rattle.releasing.specs.declared.Cut.the-variants as cut-is
 use Rattle.laws.specs.Models.{checkOf, releaseLengths, pageInside}
-use Rattle.releasing.specs.Models.{cutFor, oldestOf}
+use Rattle.releasing.specs.Models.{cutAt, oldestOf}
 use Rattle.pool.specs.Models.{newestOf, withChain}
 use Rattle.laws.specs.Checking.{OnCheck}
 use Rattle.pool.specs.Takes.{Top}
@@ -37,13 +35,8 @@ pub record Splices (h : Head) (count table stack link : List ℕ) (a : ℕ) (r :
 
 -- ---- what a release is to do: the check's refusal, or what follows from whether the page is a start
 
-pub record CutsFrom (k : Memory) (a : ℕ) (r : Cut) : Type 0 where
-  pub is-set : Membership
-  pub set-asked : Asked (places (sizesOf (k .head))) a (k .index) is-set
-  pub is : r ≡ cutFor is-set (k .head) (k .count) (k .table) (k .stack) (places (sizesOf (k .head))) a
-
 abbrev pub CutOfIf : ℕ → Memory → ℕ → ℕ → Cut → Type 0
-CutOfIf n k i b r = OnCheck n cut-is.Refused (CutsFrom k (placeOf (sizesOf (k .head)) i b)) r
+CutOfIf n k i b r = OnCheck n cut-is.Refused (λ r. r ≡ cutAt k (placeOf (sizesOf (k .head)) i b)) r
 
 -- release isn't lent helper, cache and RAM: any will do
 pub record CutOf (h : Head) (i b : ℕ) (index count table stack link : List ℕ) (r : Cut) : Type 0 where

@@ -5,11 +5,7 @@ use mathlib.Core.List.{List}
 use Prim.Native.Nat.{ℕ, zero, suc, _+_, _-_}
 use lib.Dec.{leb, ltb}
 use lib.ListN.{set}
-use Rattle.index.specs.declared.Change.the-variants as change-is
-use Rattle.index.specs.declared.Membership.{Membership}
-use Rattle.index.specs.declared.Membership.the-variants as membership-is
-use Rattle.index.specs.declared.Found.the-variants as found-is
-use Rattle.index.specs.Promise.{Asked}
+use Rattle.layer.specs.Words.{bitAt}
 use Rattle.machine.specs.Machine.{places, placeOf, Answer, pages, refused}
 use Rattle.memory.specs.Memory.{Memory, at, sizesOf}
 use Rattle.memory.specs.declared.Head.{Head}
@@ -62,16 +58,17 @@ cutLeaves (cut-is.At a) k = spliced k a
 cutLeaves (cut-is.Refused n) k = k
 
 -- from whether the place is a start
-abbrev pub cutFor : Membership → Head → List ℕ → List ℕ → List ℕ → ℕ → ℕ → cut.Cut
-cutFor membership-is.Member h count table stack t a = cutIf (at count a) (cutOk h table stack t a (at count a)) a
-cutFor membership-is.Absent h count table stack t a = cut-is.Refused 5
-cutFor (membership-is.Refused n) h count table stack t a = cut-is.Refused 9
+abbrev pub cutFor : Bool → Head → List ℕ → List ℕ → List ℕ → ℕ → ℕ → cut.Cut
+cutFor true h count table stack t a = cutIf (at count a) (cutOk h table stack t a (at count a)) a
+cutFor false h count table stack t a = cut-is.Refused 5
+
+-- what is to be done about place a of a memory
+abbrev pub cutAt : Memory → ℕ → cut.Cut
+cutAt k a = cutFor (bitAt (k .index) a) (k .head) (k .count) (k .table) (k .stack) (places (sizesOf (k .head))) a
 
 pub record Releases (k : Memory) (a₀ : ℕ) (a : Answer) (k′ : Memory) : Type 0 where
-  pub is-set : Membership
-  pub set-asked : Asked (places (sizesOf (k .head))) a₀ (k .index) is-set
-  pub answer-is : a ≡ cutSays (cutFor is-set (k .head) (k .count) (k .table) (k .stack) (places (sizesOf (k .head))) a₀) k
-  pub after-is : k′ ≡ cutLeaves (cutFor is-set (k .head) (k .count) (k .table) (k .stack) (places (sizesOf (k .head))) a₀) k
+  pub answer-is : a ≡ cutSays (cutAt k a₀) k
+  pub after-is : k′ ≡ cutLeaves (cutAt k a₀) k
 
 abbrev pub ReleaseDone : ℕ → ℕ → Memory → Answer → Memory → Type 0
 ReleaseDone i b k a k′ =

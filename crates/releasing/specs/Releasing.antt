@@ -14,8 +14,6 @@ use lib.Seq.{getD-set-same, getD-set-other, drop-set-lt, set-getD}
 use Rattle.sequence.specs.Sums.{sum, sum-append, hit, hit-same}
 use Rattle.sequence.specs.Changes.{changed-set}
 use Rattle.index.specs.Answers as index
-use Rattle.index.specs.declared.Membership.{Membership}
-use Rattle.index.specs.Promise.{Asked}
 use Rattle.index.specs.Words.{IndexOf, bitAt}
 use Rattle.index.specs.Laws.{index-bit}
 use Rattle.machine.specs.declared.PageCall.the-variants.{Release}
@@ -222,10 +220,6 @@ module _ (k : Memory) (i b : ℕ) (e : asked (sizesOf (k .head)) (release i b (l
   known : Admitted (sizesOf (k .head)) (uses (release i b (lengths k))) i b (lengths k)
   known = admitted (sizesOf (k .head)) Release i b (lengths k) e
 
-  -- the index says whether the place is a start, and nothing else
-  set-is : (s : Membership) → Asked (places z) a₀ (k .index) s → s ≡ index.memberIf (bitAt (k .index) a₀)
-  set-is s q = q .any ∙ rw (check-passes z (known .sizes-ok) (length (k .index)) (known .lent .index refl) a₀ (known .place))
-
   -- what the machine does
   out-is : (m : State) → Holds m k → (v : Bool) → bitAt (k .index) a₀ ≡ v → step m (release i b (lengths k)) ≡ releaseAt m a₀ v
   unfolding accepted
@@ -313,11 +307,11 @@ module _ (k : Memory) (i b : ℕ) (e : asked (sizesOf (k .head)) (release i b (l
     by-count (suc n) c false f = broken-did n c f
 
   by-set : (v : Bool) → bitAt (k .index) a₀ ≡ v
-      → let c = cutFor (index.memberIf v) (k .head) (k .count) (k .table) (k .stack) (places z) a₀ in Did (release i b) k (cutSays c k) (cutLeaves c k)
+      → let c = cutFor v (k .head) (k .count) (k .table) (k .stack) (places z) a₀ in Did (release i b) k (cutSays c k) (cutLeaves c k)
   by-set true is = by-count is (at (k .count) a₀) refl _ refl
   by-set false is = no-start-did is
 
 pub release-did : (i b : ℕ) (k : Memory) (a : Answer) (k′ : Memory) → ReleaseDone i b k a k′ → Did (release i b) k a k′
 release-did i b k a k′ d =
     checked-did (release i b) k _ (page-check k i b Release (releaseLengths k) refl) _ a k′ d
-    (λ e r. rw (r .answer-is, r .after-is, set-is k i b e (r .is-set) (r .set-asked)) (by-set k i b e (bitAt (k .index) _) refl))
+    (λ e r. rw (r .answer-is, r .after-is) (by-set k i b e (bitAt (k .index) _) refl))

@@ -1,9 +1,9 @@
 // Releasing a region: one resident count and one frame link, however large the region.
 use checks::all_places;
 use checks::check;
+use checks::passes;
 use checks::place;
 use checks::wide;
-use index::Membership;
 use machine::Released;
 use memory::ANY;
 use memory::Head;
@@ -92,17 +92,16 @@ fn cut_of(
         link: link.len(),
         ram: ANY,
     };
-    let no = check(head, lent, space, page < head.pages);
-    if no != 0 {
-        return Cut::Refused(no);
+    let inside = page < head.pages;
+    if !passes(head, lent, space, inside) {
+        return Cut::Refused(check(head, lent, space, inside));
     }
     let t = all_places(head);
     let a = place(head, space, page);
-    match index::is_set(index, t, a) {
-        Membership::Member => cut_at(head, count, table, stack, t, a),
-        Membership::Absent => Cut::Refused(5),
-        Membership::Refused(_) => Cut::Refused(9),
+    if layer::bit_at(index, a) {
+        return cut_at(head, count, table, stack, t, a);
     }
+    Cut::Refused(5)
 }
 
 // The splice: the oldest frame is linked to the pool's first, and the newest is now the first.

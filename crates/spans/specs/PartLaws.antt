@@ -1,11 +1,12 @@
 -- A page's part of a span: where it lies in RAM, and the next one after it.
 use mathlib.Core.Path.{_≡_, _∙_}
 use mathlib.Core.List.{List}
-use Prim.Native.Nat.{ℕ, _+_, _-_, _*_, _%_, _≤_, _<_, min}
-use native.Mathlib.Nat.{mod-lt, mul-le-mul-left, mul-le-mul-right, add-sub-cancel-left}
+use Prim.Native.Nat.{ℕ, zero, suc, _+_, _-_, _*_, _/_, _%_, _≤_, _<_, min}
+use native.Mathlib.Nat.{mod-lt, div-add-mod', div-lt-iff-lt-mul, mul-le-mul-left, mul-le-mul-right, add-sub-cancel-left}
 use native.Mathlib.Omega.{arith}
 use lib.ListN.{length, take, drop, length-drop}
 use lib.Seq.{length-take-le}
+use Rattle.machine.specs.Machine.{spanPages}
 use Rattle.machine.specs.Claims.{Address}
 use Rattle.machine.specs.Laws.Sizes.{fit}
 use Rattle.memory.specs.Memory.{sizesOf}
@@ -42,6 +43,14 @@ module _ (h : Head) (i x n : ℕ) (ram : List ℕ) (pre : Part h i x n ram) wher
     pub part-long : length (take (from + n - from) (drop from ram)) ≡ n
     part-long =
         length-take-le (from + n - from) (drop from ram) (rw length-drop (omega (arith, part-ends))) ∙ add-sub-cancel-left from n
+
+-- a span of one page is a part
+pub one-page : (h : Head) (i x n : ℕ) (ram : List ℕ) → Span h i x n ram → spanPages (sizesOf h) x n ≡ 1 → Part h i x n ram
+one-page h i x zero ram s e = absurd (omega arith)
+one-page h i x (suc n) ram s e =
+    let p = sizesOf h .page in
+    let last : x + n < suc (x / p) * p = div-lt-iff-lt-mul (some-page h (s .sizes-ok)) .0 (omega arith) in
+    record { span = s; some-bytes = omega arith; fits = omega (arith, last, div-add-mod' x p) }
 
 -- ---- parts one after another
 

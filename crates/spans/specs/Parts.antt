@@ -21,6 +21,10 @@ pub record Part (h : Head) (i x n : ℕ) (ram : List ℕ) : Type 0 where
   pub some-bytes : 0 < n
   pub fits : x % sizesOf h .page + n ≤ sizesOf h .page
 
+-- where address x is in frame f
+abbrev pub placeIn : Head → ℕ → ℕ → ℕ
+placeIn h f x = f * sizesOf h .page + x % sizesOf h .page
+
 -- place q of the RAM is that of address x in one of the frames
 pub record RamPlace (h : Head) (x q : ℕ) : Type 0 where
   pub frame : ℕ

@@ -1,12 +1,15 @@
 // Addresses and spans of a head whose sizes are within their limits: pages, parts of pages, places in RAM.
+use checks::place;
 use checks::wide;
 use machine::Looked;
 use memory::Head;
 ghost use mathlib.Core.Path.{_≡_};
 ghost use mathlib.Core.Bool.{true};
 ghost use Prim.Native.Nat.{_+_, _-_, _*_, _/_, _%_, _<_, _≤_, min};
-ghost use Rattle.machine.specs.Machine.{sizesOk, spaceBytes, spanPages};
-ghost use Rattle.memory.specs.Memory.{sizesOf};
+ghost use lib.ListN.{length};
+ghost use Rattle.machine.specs.Machine.{sizesOk, spaceBytes, places, pageOfAddress, spanPages};
+ghost use Rattle.machine.specs.Claims.{Address};
+ghost use Rattle.memory.specs.Memory.{at, sizesOf};
 ghost use Rattle.spans.specs.Spans.{absenceOf};
 
 // The refusal of a page that was looked up and isn't resident; 0 for one that is.
@@ -27,6 +30,16 @@ pub fn page_of(h: Head, x: usize) -> usize
 {
     let size = h.page;
     size.page(x)
+}
+
+// The frame that the page table has for the page of address x, resident or not.
+pub fn frame_at(h: Head, space: u32, x: usize, table: &[u32]) -> u32
+    requires { ⌜ (sizesOk (sizesOf h) ≡ true) × Address (sizesOf h) space x × (places (sizesOf h) ≤ length (now table)) ⌝ }
+    ensures { λ r. ⌜ r ≡ at (now (table .entry)) (pageOfAddress (sizesOf h) space x) ⌝ }
+{
+    let page = page_of(h, x);
+    let p = place(h, space, page as u32);
+    table[p]
 }
 
 // How many bytes of the page of address x lie from x on, at most `left`.

@@ -10,9 +10,9 @@ use Rattle.promise.specs.Holds.{Holds}
 use Rattle.promise.specs.Did.{Words}
 use Rattle.storing.specs.Storing.{SpanMapped}
 
-pub record Stored (h : Head) (i x : ℕ) (vs index count table helper stack cache ram ram′ : List ℕ) : Type 0 where
+pub record Stored (h : Head) (i x : ℕ) (vs table ram ram′ : List ℕ) : Type 0 where
   -- on any memory
   pub words : Words (length vs) (sizesOf h .frames * sizesOf h .page) ram ram′
-  -- where head and tables stand for a machine; ram₀ is the RAM as it stood before the first part
-  pub honest : (link ram₀ : List ℕ) (m : State) → Holds m (memory h index count table helper stack cache link ram₀)
+  -- where head and page table, with index and other tables, stand for a machine; ram₀ is the RAM as it stood before the first part
+  pub honest : (index count helper stack cache link ram₀ : List ℕ) (m : State) → Holds m (memory h index count table helper stack cache link ram₀)
       → SpanMapped m i x (length vs) → ram′ ≡ stored m i x vs ram

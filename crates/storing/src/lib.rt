@@ -1,87 +1,50 @@
 // Storing the bytes of a span whose pages are mapped: each frame's part of the RAM is lent on, and stored there.
 use copying::copy;
-use machine::Translated;
 use memory::Head;
+use spans::frame_at;
 use spans::part;
-use translating::translate_checked;
+use spans::ram_place;
+ghost use mathlib.Core.Path.{_≡_};
+ghost use Prim.Native.Nat.{ℕ, _<_, _≤_};
 ghost use lib.ListN.{length};
-ghost use Rattle.lookup.specs.Ready.{Lookable};
-ghost use Rattle.spans.specs.Parts.{Span, Part};
+ghost use lib.Seq.{sets};
+ghost use Rattle.machine.specs.Machine.{places};
+ghost use Rattle.memory.specs.Memory.{sizesOf};
+ghost use Rattle.spans.specs.Parts.{Span, Part, placeIn};
 ghost use Rattle.storing.specs.Stores.{Stored};
 
-// Stores src, all of one page, from address x on.
-fn write_part(
-    head: Head,
-    space: u32,
-    x: usize,
-    src: &[u8],
-    index: &[u64],
-    count: &[u32],
-    table: &[u32],
-    helper: &[u32],
-    stack: &[u32],
-    cache: &[u32],
-    ram: &mut [u8],
-)
-    requires { ⌜ Part head space x (length (now src)) (now ram) × Lookable head space (now index) (now count) (now table) (now helper) (now stack)
-        (now cache) ⌝ }
-    ensures { λ _. ⌜ Stored head space x (now (src .entry)) (now (index .entry)) (now (count .entry)) (now (table .entry)) (now (helper .entry))
-        (now (stack .entry)) (now (cache .entry)) (now (ram .entry)) (now (ram .exit)) ⌝ }
+// Stores src, all of one page, from address x on in the page's frame.
+pub fn store_frame(head: Head, frame: u32, x: usize, src: &[u8], ram: &mut [u8])
+    requires { ⌜ ((i : ℕ) × Part head i x (length (now src)) (now ram)) × (frame < head .frames) ⌝ }
+    ensures { λ _. ⌜ now (ram .exit) ≡ sets (now (ram .entry)) (placeIn head frame x) (now (src .entry)) ⌝ }
 {
-    let Translated::At(from) = translate_checked(
-        head,
-        space,
-        x,
-        index,
-        count,
-        table,
-        helper,
-        stack,
-        cache,
-    ) else {
-        return;
-    };
+    let from = ram_place(head, frame, x);
     let to = from + src.len();
     copy(src, &mut ram[from..to]);
 }
 
+// Stores src, all of one page, from address x on, if the page is resident.
+fn write_part(head: Head, space: u32, x: usize, src: &[u8], table: &[u32], ram: &mut [u8])
+    requires { ⌜ Part head space x (length (now src)) (now ram) × (places (sizesOf head) ≤ length (now table)) ⌝ }
+    ensures { λ _. ⌜ Stored head space x (now (src .entry)) (now (table .entry)) (now (ram .entry)) (now (ram .exit)) ⌝ }
+{
+    let frame = frame_at(head, space, x, table);
+    if frame < head.frames {
+        store_frame(head, frame, x, src, ram);
+    }
+}
+
 // Stores the bytes of a span, a page's part at a time.
-pub fn store(
-    head: Head,
-    space: u32,
-    address: usize,
-    bytes: &[u8],
-    index: &[u64],
-    count: &[u32],
-    table: &[u32],
-    helper: &[u32],
-    stack: &[u32],
-    cache: &[u32],
-    ram: &mut [u8],
-)
-    requires { ⌜ Span head space address (length (now bytes)) (now ram) × Lookable head space (now index) (now count) (now table) (now helper) (now stack)
-        (now cache) ⌝ }
-    ensures { λ _. ⌜ Stored head space address (now (bytes .entry)) (now (index .entry)) (now (count .entry)) (now (table .entry)) (now (helper .entry))
-        (now (stack .entry)) (now (cache .entry)) (now (ram .entry)) (now (ram .exit)) ⌝ }
+pub fn store(head: Head, space: u32, address: usize, bytes: &[u8], table: &[u32], ram: &mut [u8])
+    requires { ⌜ Span head space address (length (now bytes)) (now ram) × (places (sizesOf head) ≤ length (now table)) ⌝ }
+    ensures { λ _. ⌜ Stored head space address (now (bytes .entry)) (now (table .entry)) (now (ram .entry)) (now (ram .exit)) ⌝ }
 {
     let n = bytes.len();
     let mut done = 0;
     while done < n {
         let x = address + done;
         let next = done + part(head, x, n - done);
-        write_part(
-            head,
-            space,
-            x,
-            &bytes[done..next],
-            index,
-            count,
-            table,
-            helper,
-            stack,
-            cache,
-            ram,
-        );
+        write_part(head, space, x, &bytes[done..next], table, ram);
         done = next;
     }
 }

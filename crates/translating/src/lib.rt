@@ -1,5 +1,4 @@
-// The place in RAM of an address: its page's frame, by the page's look, and the offset. Translate answers it, read and
-// write copy there.
+// The place in RAM of an address: its page's frame, by the page's look, and the offset.
 use checks::address_inside;
 use checks::check;
 use lookup::look_checked;
@@ -17,45 +16,6 @@ ghost use Rattle.machine.specs.Machine as machine;
 ghost use Rattle.machine.specs.Answers.{translatedSays};
 ghost use Rattle.memory.specs.Memory.{memory};
 ghost use Rattle.promise.specs.Did.{Did};
-ghost use Rattle.translating.specs.Ready.{Translatable, InFrame};
-
-// The translate of a call that passed the checks: read and write check once and translate an address in each page.
-pub fn translate_checked(
-    head: Head,
-    space: u32,
-    address: usize,
-    index: &[u64],
-    count: &[u32],
-    table: &[u32],
-    helper: &[u32],
-    stack: &[u32],
-    cache: &[u32],
-) -> Translated
-    requires { ⌜ Translatable head space address (now index) (now count) (now table) (now helper) (now stack) (now cache) ⌝ }
-    ensures { λ r. ⌜ InFrame head address r × ((link ram : List ℕ) →
-        Did (machine.translate space address)
-        (memory head (now (index .entry)) (now (count .entry)) (now (table .entry)) (now (helper .entry)) (now (stack .entry)) (now (cache .entry)) link ram)
-        (translatedSays r)
-        (memory head (now (index .entry)) (now (count .entry)) (now (table .entry)) (now (helper .entry)) (now (stack .entry)) (now (cache .entry)) link
-        ram)) ⌝ }
-{
-    let page = page_of(head, address);
-    let found = look_checked(
-        head,
-        space,
-        page as u32,
-        index,
-        count,
-        table,
-        helper,
-        stack,
-        cache,
-    );
-    let Looked::Resident(frame) = found else {
-        return Translated::Refused(absence(found));
-    };
-    Translated::At(ram_place(head, frame, address))
-}
 
 // The place in RAM of an address.
 pub fn translate(
@@ -90,15 +50,20 @@ pub fn translate(
     if no != 0 {
         return Translated::Refused(no);
     }
-    translate_checked(
+    let page = page_of(head, address);
+    let found = look_checked(
         head,
         space,
-        address,
+        page as u32,
         index,
         count,
         table,
         helper,
         stack,
         cache,
-    )
+    );
+    let Looked::Resident(frame) = found else {
+        return Translated::Refused(absence(found));
+    };
+    Translated::At(ram_place(head, frame, address))
 }

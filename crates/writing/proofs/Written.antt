@@ -8,23 +8,27 @@ use native.Mathlib.Omega.{arith}
 use borrow.Author.Tests.{le-ltb}
 use lib.Dec.{ltb}
 use lib.ListN.{length}
-use Rattle.machine.specs.Machine.{Sizes, sizesOk, spaceBytes, placeOf, spanPages, State, anyOutside, countAbsent, write, asked, done, refused}
+use lib.Seq.{sets}
+use Rattle.machine.specs.Machine.{Sizes, sizesOk, spaceBytes, places, placeOf, spanPages, State, anyOutside, countAbsent, write, asked, done, refused}
 use Rattle.machine.specs.Laws.Sizes.{fit}
-use Rattle.memory.specs.Memory.{Memory, withBytes, sizesOf, lengths}
+use Rattle.memory.specs.Memory.{Memory, withBytes, at, sizesOf, lengths}
 use Rattle.promise.specs.Holds.{Holds}
+use Rattle.promise.specs.Shown.{frameOf}
 use Rattle.promise.specs.Did.{Among, Words, Did}
 use Rattle.laws.specs.Models.{checkOf}
 use Rattle.laws.specs.Spans.{spanInside, writeLengths, AllTouched}
 use Rattle.laws.specs.SpanChecks.{write-check}
 use Rattle.lookup.specs.Ready.{Lookable}
-use Rattle.lookup.specs.Sights.{lookable, still-ready}
+use Rattle.lookup.specs.Sights.{frame-is, lookable, still-ready}
 use Rattle.touching.specs.Fits.{Touchable}
-use Rattle.spans.specs.Parts.{Span}
+use Rattle.spans.specs.Parts.{Span, Part, placeIn}
+use Rattle.spans.specs.PartLaws.{one-page}
 use Rattle.surveying.specs.declared.Tally.{Tally}
 use Rattle.surveying.specs.declared.Tally.the-variants.{Absent, Refused}
 use Rattle.surveying.specs.Surveys.{AllResident, TallyIs, SpanSurveyed, settledBy, Settled}
 use Rattle.mapping.specs.Touches.{all-tables}
 use Rattle.storing.specs.Stores.{Stored}
+use Rattle.storing.specs.Frames.{frame-stored}
 use Rattle.writing.specs.Writing.{SpanAdmitted, write-admitted, span-pages-inside, writeRefusal, spanRefusal, write-refused, write-done}
 use Rattle.writing.proofs.Resident.{resident-there, resident-touched}
 
@@ -103,6 +107,27 @@ module _ {k : Memory} {i x : ℕ} {vs : List ℕ} {first pages : ℕ} (s : Spann
   pub refused-short : {short : ℕ} → Decided k i x vs short → (short ≡ 0 → ⊥) → Did (write i x vs) k (refused short) k
   refused-short d not-none = write-refused i x vs k (s .passes) _ (d .late not-none) (d .is)
 
+  -- ---- a span of one page that is resident
+
+  module _ (one : pages ≡ 1) where
+    pub one-part : Part (k .head) i x (length vs) (k .ram)
+    one-part =
+        one-page (k .head) i x (length vs) (k .ram)
+        (record { sizes-ok = admitted .sizes-ok; space = admitted .space; ends = admitted .fits; ram-long = admitted .lent .ram refl })
+        (sym (s .pages-is) ∙ one)
+
+    module _ (f : ℕ) (is : f ≡ frameOf (k .head) i first (k .count) (k .table) (k .helper) (k .stack) (k .cache)) (below : f < k .head .frames) where
+      pub one-resident : AllResident (k .head) i first (first + pages) (k .count) (k .table) (k .helper) (k .stack) (k .cache)
+      one-resident b from to =
+          let here : first ≡ b = omega arith in
+          subst (λ (c : ℕ). frameOf (k .head) i c (k .count) (k .table) (k .helper) (k .stack) (k .cache) < k .head .frames) here (omega (arith, is))
+
+      pub one-stored : {ram : List ℕ} → ram ≡ sets (k .ram) (placeIn (k .head) f x) vs → Stored (k .head) i x vs (k .table) (k .ram) ram
+      one-stored e =
+          frame-stored (k .head) i x vs (k .table) (k .ram) one-part f
+          (frame-is (k .head) i first (k .count) (k .table) (k .helper) (k .stack) (k .cache) is below
+          ∙ ap (λ (b : ℕ). at (k .table) (placeOf z i b)) (s .first-is)) below _ e
+
   -- ---- where every page is resident: nothing is to be settled, and a touch of each leaves all as it is
 
   module _ (all : AllResident (k .head) i first (first + pages) (k .count) (k .table) (k .helper) (k .stack) (k .cache)) where
@@ -139,15 +164,17 @@ module _ {k : Memory} {i x : ℕ} {vs : List ℕ} {first pages : ℕ} (s : Spann
           ram-long = subst (λ (y : Sizes). y .frames * y .page ≤ length (k .ram)) back (admitted .lent .ram refl);
         }
 
-    pub next-lookable : Lookable (k₁ .head) i (k₁ .index) (k₁ .count) (k₁ .table) (k₁ .helper) (k₁ .stack) (k₁ .cache)
+    next-lookable : Lookable (k₁ .head) i (k₁ .index) (k₁ .count) (k₁ .table) (k₁ .helper) (k₁ .stack) (k₁ .cache)
     next-lookable b l = still-ready (all-tables touched) (span-lookable b (subst (λ (y : Sizes). b < y .pages) sizes-stay l))
 
-    pub written : {short : ℕ} → Decided k i x vs short → short ≡ 0 → {ram : List ℕ}
-        → Stored (k₁ .head) i x vs (k₁ .index) (k₁ .count) (k₁ .table) (k₁ .helper) (k₁ .stack) (k₁ .cache) (k .ram) ram → Did (write i x vs) k done
-        (withBytes k₁ ram)
+    pub next-table : places (sizesOf (k₁ .head)) ≤ length (k₁ .table)
+    next-table = next-lookable 0 (fit (sizesOf (k₁ .head)) (next-span .sizes-ok) .some-pages) .table-long
+
+    pub written : {short : ℕ} → Decided k i x vs short → short ≡ 0 → {ram : List ℕ} → Stored (k₁ .head) i x vs (k₁ .table) (k .ram) ram
+        → Did (write i x vs) k done (withBytes k₁ ram)
     written d none {ram} stores =
         write-done i x vs k (s .passes) k₁ ram
         (subst (λ (b : ℕ). AllTouched i b k (spanPages z x (length vs)) k₁) (s .first-is) (subst (λ (n : ℕ). AllTouched i first k n k₁) count-is touched))
         (subst (λ (y : Sizes). Words (length vs) (y .frames * y .page) (k .ram) ram) sizes-stay (stores .words))
         (λ m H. sym none ∙ d .is m H)
-        (λ m H on. stores .honest (k₁ .link) (k₁ .ram) m H on)
+        (λ m H on. stores .honest (k₁ .index) (k₁ .count) (k₁ .helper) (k₁ .stack) (k₁ .cache) (k₁ .link) (k₁ .ram) m H on)

@@ -1,7 +1,8 @@
 // Writing bytes through the pager: regions and pool are settled before the first touch, then every page is
-// touched, then the bytes are stored. A span whose pages are all resident goes straight to the stores.
+// touched, then the bytes are stored. A span whose pages are all resident goes straight to the stores, one of a single page without a loop.
 use checks::check;
 use checks::span_inside;
+use lookup::frame_of;
 use machine::Done;
 use mapping::touch_all;
 use memory::Head;
@@ -9,6 +10,7 @@ use memory::Lengths;
 use memory::WriteOut;
 use spans::page_of;
 use storing::store;
+use storing::store_frame;
 use surveying::all_resident;
 use surveying::settled;
 use surveying::survey;
@@ -59,21 +61,29 @@ pub fn write(
         };
     }
     let first = page_of(head, address);
-    let end = first + spans::pages(head, address, n);
-    if all_resident(head, space, first, end, count, table, helper, stack, cache) {
-        store(
+    let pages = spans::pages(head, address, n);
+    if pages == 1 {
+        let frame = frame_of(
             head,
             space,
-            address,
-            bytes,
-            index,
+            first as u32,
             count,
             table,
             helper,
             stack,
             cache,
-            ram,
         );
+        if frame < head.frames {
+            store_frame(head, frame, address, bytes, ram);
+            return WriteOut {
+                head,
+                answer: Done::Ok,
+            };
+        }
+    }
+    let end = first + pages;
+    if all_resident(head, space, first, end, count, table, helper, stack, cache) {
+        store(head, space, address, bytes, table, ram);
         return WriteOut {
             head,
             answer: Done::Ok,
@@ -111,19 +121,7 @@ pub fn write(
         cache,
         link,
     );
-    store(
-        next,
-        space,
-        address,
-        bytes,
-        index,
-        count,
-        table,
-        helper,
-        stack,
-        cache,
-        ram,
-    );
+    store(next, space, address, bytes, table, ram);
     WriteOut {
         head: next,
         answer: Done::Ok,

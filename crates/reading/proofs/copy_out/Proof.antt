@@ -3,7 +3,6 @@ use mathlib.Core.Path.{refl}
 use Prim.Native.Nat.{_+_, _-_, _<_, _≤_}
 use native.Mathlib.Omega.{arith}
 use lib.ListN.{length}
-use Rattle.memory.specs.Memory.{memory}
 use Rattle.spans.specs.Shifted.{space-small}
 use Rattle.spans.specs.PartLaws.{next-some, next-within, next-part}
 use Rattle.reading.proofs.Copies.{Copying, copying-none, copying-more, copying-all}
@@ -12,14 +11,13 @@ use Rattle.reading.proofs.copy_out.Statement.{statement}
 use Rattle.reading.proofs.copy_out.Tie as tie
 
 abbrev Inv-loop : tie.InvT-loop
-Inv-loop head space address buffer₀ index count table helper stack cache ram n done₀ buffer done =
-    Copying address n buffer done (λ link. memory head index count table helper stack cache link ram) space
+Inv-loop head space address buffer₀ table ram n done₀ buffer done = Copying head table ram space address n buffer done
 
 abbrev μ-loop : tie.MeasureT-loop
-μ-loop head space address buffer₀ index count table helper stack cache ram n done₀ buffer done = n - done
+μ-loop head space address buffer₀ table ram n done₀ buffer done = n - done
 
 abbrev entry : tie.At-loop Inv-loop μ-loop → tie.Start Inv-loop μ-loop
-entry c = c .before .before .before .before .before .before .before .before .before
+entry c = c .before .before .before .before
 
 -- the next part is not empty and ends within the buffer
 module _ (c : tie.After-part Inv-loop μ-loop) where
@@ -33,7 +31,7 @@ module _ (c : tie.After-part Inv-loop μ-loop) where
   within = next-within _ _ _ _ _ (s .pre .0) _ _ (c .before .loop-test .taken) (c .part .ensures)
 
 loop-holds : tie.Need-loop-holds Inv-loop μ-loop
-loop-holds c = copying-none _ _ _ _ _ refl
+loop-holds c = copying-none _ _ _ _ _ _ _ refl
 
 add-x : tie.Need-add-x Inv-loop μ-loop
 add-x c = let s = entry (c .before) in omega (arith, space-small (s .args .head) (s .pre .0 .sizes-ok), s .pre .0 .ends)
@@ -68,10 +66,10 @@ loop-less c = omega (arith, some (c .before .before .before .before), within (c 
 loop-again : tie.Need-loop-again Inv-loop μ-loop
 loop-again c =
     let p = c .before .before .before .before in
-    copying-more _ _ _ _ _ _ _ _ (p .before .before .loop .inv) (within p) (c .before .buffer .given .0) (c .before .before .read-part .ensures)
+    copying-more _ _ _ _ _ _ _ _ _ _ (p .before .before .loop .inv) (within p) (c .before .buffer .given .0) (c .before .before .read-part .ensures)
 
 returns : tie.Need-returns Inv-loop μ-loop
-returns c = copying-all _ _ _ _ _ _ (c .before .loop .inv) (c .loop-test .left)
+returns c = copying-all _ _ _ _ _ _ _ _ (c .before .loop .inv) (c .loop-test .left)
 
 pub copy-out-spec : {M : Type 1} → statement M
 copy-out-spec =

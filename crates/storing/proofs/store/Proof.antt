@@ -10,14 +10,13 @@ use Rattle.storing.proofs.store.Statement.{statement}
 use Rattle.storing.proofs.store.Tie as tie
 
 abbrev Inv-loop : tie.InvT-loop
-Inv-loop head space address bytes index count table helper stack cache ram₀ n done₀ ram done =
-    Storing head space address bytes index count table helper stack cache ram₀ ram done
+Inv-loop head space address bytes table ram₀ n done₀ ram done = Storing head space address bytes table ram₀ ram done
 
 abbrev μ-loop : tie.MeasureT-loop
-μ-loop head space address bytes index count table helper stack cache ram₀ n done₀ ram done = length bytes - done
+μ-loop head space address bytes table ram₀ n done₀ ram done = length bytes - done
 
 abbrev entry : tie.In-loop Inv-loop μ-loop → tie.Start Inv-loop μ-loop
-entry c = c .before .before .before .before .before .before .before .before .before .before
+entry c = c .before .before .before .before .before
 
 -- the span ends far below the greatest number
 ends-low : (c : tie.In-loop Inv-loop μ-loop) → let a = entry c .args in a .address + length (a .bytes .now) ≤ 17179869184
@@ -27,7 +26,7 @@ within : (c : tie.After-part Inv-loop μ-loop) → c .before .before .loop .done
 within c = next-within _ _ _ _ _ (entry (c .before) .pre .0) _ _ (c .before .loop-test .taken) (c .part .ensures)
 
 loop-holds : tie.Need-loop-holds Inv-loop μ-loop
-loop-holds c = storing-none _ _ _ _ _ _ _ _ _ _ _
+loop-holds c = storing-none _ _ _ _ _ _
 
 add-x : tie.Need-add-x Inv-loop μ-loop
 add-x c = omega (arith, ends-low c)
@@ -55,7 +54,7 @@ write-part-requires c κs =
     let p = c .before .before in
     let t = p .before in
     let s = entry t in (
-      next-part _ _ _ _ _ (storing-span _ _ _ _ _ _ _ _ _ _ _ _ _ (t .before .loop .inv) (s .pre .0)) _ _ (t .loop-test .taken) (p .part .ensures) _ refl,
+      next-part _ _ _ _ _ (storing-span _ _ _ _ _ _ _ _ (t .before .loop .inv) (s .pre .0)) _ _ (t .loop-test .taken) (p .part .ensures) _ refl,
       s .pre .1,
     )
 
@@ -67,13 +66,13 @@ loop-less c =
 loop-again : tie.Need-loop-again Inv-loop μ-loop
 loop-again c =
     let p = c .before .before .before .before .before in
-    storing-more _ _ _ _ _ _ _ _ _ _ _ _ _ _ _ (p .before .before .loop .inv) (within p) (c .before .before .write-part .ensures)
+    storing-more _ _ _ _ _ _ _ _ _ _ (p .before .before .loop .inv) (within p) (c .before .before .write-part .ensures)
 
 same-length : tie.Need-same-length Inv-loop μ-loop
 same-length c = c .before .loop .inv .words .few .size
 
 returns : tie.Need-returns Inv-loop μ-loop
-returns c = storing-all _ _ _ _ _ _ _ _ _ _ _ _ _ (c .before .loop .inv) (c .loop-test .left)
+returns c = storing-all _ _ _ _ _ _ _ _ (c .before .loop .inv) (c .loop-test .left)
 
 pub store-spec : {M : Type 1} → statement M
 store-spec =

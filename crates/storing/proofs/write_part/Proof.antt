@@ -1,59 +1,30 @@
--- Where the part's first byte is, and a copy into that part of the RAM.
-use mathlib.Core.Option.{some}
+-- The frame that the table has, and the bytes into it.
 use native.Mathlib.Omega.{arith}
 use borrow.Author.Needs.{needs}
-use Rattle.spans.specs.Parts.{RamPlace}
-use Rattle.spans.specs.PartLaws.{part-small, part-low, part-ends, part-long}
-use Rattle.translating.specs.Located.{part-translatable, IsAt, located, nowhere}
-use Rattle.storing.proofs.Storing.{part-refused, part-stored}
+use Rattle.spans.specs.PartLaws.{part-address}
+use Rattle.storing.specs.Frames.{none-stored, frame-stored}
 use Rattle.storing.proofs.write_part.Statement.{statement}
 use Rattle.storing.proofs.write_part.Tie as tie
 
-abbrev entry : tie.After-translate-checked → tie.Start
-entry c = c .before .before .before .before .before .before .before .before .before
+abbrev entry : tie.After-frame-at → tie.Start
+entry c = c .before .before .before .before
 
--- the answer that the place was taken from
-abbrev told : tie.After-known-told → tie.After-translate-checked
-told c = c .before .before .before
+frame-at-requires : tie.Need-frame-at-requires
+frame-at-requires c κs =
+    let pre = c .before .before .before .pre in
+    (pre .0 .span .sizes-ok, part-address _ _ _ _ _ (pre .0), pre .1)
 
-placed : (c : tie.After-known-told)
-    → let a = entry (told c) .args in
-    let q = c .before .from .given .0 .0 in
-    RamPlace (a .head) (a .x) q × IsAt (a .head) (a .space) (a .x) (a .index .now) (a .count .now) (a .table .now) (a .helper .now) (a .stack .now)
-    (a .cache .now) (some q)
-placed c =
-    let t = told c in
-    located _ _ _ _ _ _ _ _ _ (part-translatable _ _ _ _ _ _ _ _ _ _ _ (entry t .pre .0) (entry t .pre .1)) (t .translate-checked .result)
-    (t .translate-checked .ensures) _ (c .before .from .given .1)
+store-frame-requires : tie.Need-store-frame-requires
+store-frame-requires c κs = let t = c .before in ((_, entry (t .before .before) .pre .0), t .if1 .taken)
 
 returns : tie.Need-returns
 returns c =
-    let t = c .before .before in
-    let pre = entry t .pre .0 in
-    part-refused _ _ _ _ _ _ _ _ _ _ _ pre
-    (nowhere _ _ _ _ _ _ _ _ _ (part-translatable _ _ _ _ _ _ _ _ _ _ _ pre (entry t .pre .1)) (t .translate-checked .result)
-    (t .translate-checked .ensures) _ (c .enum-told .given .1))
-
-add-to : tie.Need-add-to
-add-to c = omega (arith, part-low _ _ _ _ _ (entry (told c) .pre .0) _ (placed c .0))
-
-part-copy-end : tie.Need-part-copy-end
-part-copy-end c = omega (arith, part-ends _ _ _ _ _ (entry (told c) .pre .0) _ (placed c .0))
-
-copy-requires : tie.Need-copy-requires
-copy-requires c κs =
-    let p = c .before in
-    let pre = entry (told p) .pre .0 in
-    (omega (arith, part-small _ _ _ _ _ pre), omega (arith, part-long _ _ _ _ _ pre _ (placed p .0)))
+    let t = c .before .before .before .before in
+    let f = t .before .before in
+    frame-stored _ _ _ _ _ _ (entry f .pre .0) _ (f .frame-at .ensures) (t .if1 .taken) _ (c .before .before .store-frame .ensures)
 
 returns-2 : tie.Need-returns-2
-returns-2 c =
-    let p = c .before .before .before .before in
-    part-stored _ _ _ _ _ _ _ _ _ _ _ (entry (told p) .pre .0) _ _ (placed p .0) (placed p .1) (c .before .before .copy .ensures)
+returns-2 c = let f = c .before .before in none-stored _ _ _ _ _ _ (entry f .pre .0) (omega (arith, f .frame-at .ensures, c .if1 .left))
 
 pub write-part-spec : {M : Type 1} → statement M
-write-part-spec =
-    tie.close
-    (tie.spec
-    (λ c κs. search needs) (λ c. search needs) (λ c. search needs) returns add-to (λ c. search needs) (λ c. search needs) part-copy-end copy-requires
-    (λ c. search needs) returns-2)
+write-part-spec = tie.close (tie.spec frame-at-requires store-frame-requires (λ c. search needs) returns returns-2)

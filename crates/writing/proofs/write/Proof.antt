@@ -1,4 +1,4 @@
--- The check; the stores alone where every page is resident; else the survey, the touches, the stores.
+-- The check; the store alone where the one page of the span is resident, or every page; else the survey, the touches, the stores.
 use mathlib.Core.Path.{_≡_, refl, sym, _∙_}
 use native.Mathlib.Omega.{arith}
 use borrow.Author.Needs.{needs}
@@ -7,7 +7,7 @@ use Rattle.memory.specs.Memory.{Memory, memory, sizesOf, lengths}
 use Rattle.laws.specs.Told.{early-refused}
 use Rattle.writing.specs.Writing.{write-admitted}
 use Rattle.writing.proofs.Written.{number-is, Spanned, Decided, admitted, end-inside, end-small, span-lookable, span-touchable, decided, refused-short}
-use Rattle.writing.proofs.Written.{resident-decided, resident-stay, next-span, next-lookable, written}
+use Rattle.writing.proofs.Written.{one-part, one-resident, one-stored, resident-decided, resident-stay, next-span, next-table, written}
 use Rattle.writing.proofs.write.Statement.{statement}
 use Rattle.writing.proofs.write.Tie as tie
 
@@ -24,16 +24,16 @@ abbrev checked : tie.After-pages → tie.After-check
 checked c = c .before .before .before
 
 abbrev resided : tie.After-all-resident → tie.After-pages
-resided c = c .before .before .before .before .before .before
+resided c = c .before .before .before .before .before .before .before
 
 abbrev paged : tie.After-settled → tie.After-pages
-paged c = c .before .before .before .before .before .before .before .before .before .before .before .before .before .before
+paged c = c .before .before .before .before .before .before .before .before .before .before .before .before .before .before .before
 
-abbrev accepted : tie.After-touch-all → tie.Else3
+abbrev accepted : tie.After-touch-all → tie.Else5
 accepted c = c .before .before .before .before .before .before .before
 
-abbrev touched : tie.After-store-arg12 → tie.After-touch-all
-touched c = c .before .before .before .before .before .before .before .before .before .before .before .before .before .before .before .before .before .before
+abbrev touched : tie.After-store-arg4 → tie.After-touch-all
+touched c = c .before .before .before .before .before .before .before .before .before .before .before .before .before .before
 
 number : (c : tie.After-check)
     → let s = entry c in
@@ -65,35 +65,60 @@ page-of-requires c κs = write-admitted _ _ _ _ _ (passes c) .sizes-ok
 pages-requires : tie.Need-pages-requires
 pages-requires c κs = let a = write-admitted _ _ _ _ _ (passes (c .before)) in (a .sizes-ok, a .fits)
 
-add-end : tie.Need-add-end
-add-end c = omega (arith, end-small (span c))
+-- ---- a span of one page
 
-all-resident-requires : tie.Need-all-resident-requires
-all-resident-requires c κs = let s = span (c .before .before .before .before .before) in (_, omega arith, end-inside s, span-lookable s)
+cast-frame-of : tie.Need-cast-frame-of
+cast-frame-of c = omega (arith, end-small (span (c .before)))
 
-store-requires : tie.Need-store-requires
-store-requires c κs =
-    let r = c .before .before .before .before .before .before .before in
-    let s = span (resided r) in
-    let all = resident-stay s (r .all-resident .ensures .yes (c .before .before .before .before .before .before .if2 .taken)) in
-    (next-span s all, next-lookable s all)
+frame-of-requires : tie.Need-frame-of-requires
+frame-of-requires c κs =
+    let t = c .before .before .before .before .before in
+    let s = span (t .before) in
+    (_, span-lookable s (t .before .before .page-of .result) (omega (arith, end-inside s, t .if2 .taken)))
+
+store-frame-requires : tie.Need-store-frame-requires
+store-frame-requires c κs = let t = c .before .before .before .before .before .before .before .before .before in ((_, one-part (span (t .before)) (t .if2 .taken)), c .before .if3 .taken)
 
 returns-2 : tie.Need-returns-2
 returns-2 c =
-    let r = c .before .before .before .before .before .before .before .before .before .before in
+    let f = c .before .before .before .before .before .before in
+    let t = f .before .before .before .before .before .before in
+    let s = span (t .before) in
+    let below = c .before .before .before .before .if3 .taken in
+    let all = one-resident s (t .if2 .taken) _ (f .frame-of .ensures) below in
+    written s (resident-stay s all) (resident-decided s all) refl
+    (one-stored s (t .if2 .taken) _ (f .frame-of .ensures) below (c .before .before .store-frame .ensures))
+
+-- ---- any other span
+
+add-end : tie.Need-add-end
+add-end c = omega (arith, end-small (span (c .before)))
+
+all-resident-requires : tie.Need-all-resident-requires
+all-resident-requires c κs = let s = span (c .before .before .before .before .before .before) in (_, omega arith, end-inside s, span-lookable s)
+
+store-requires : tie.Need-store-requires
+store-requires c κs =
+    let r = c .before .before .before in
     let s = span (resided r) in
-    let all = r .all-resident .ensures .yes (c .before .before .before .before .before .before .before .before .before .if2 .taken) in
+    let all = resident-stay s (r .all-resident .ensures .yes (c .before .before .if4 .taken)) in
+    (next-span s all, next-table s all)
+
+returns-3 : tie.Need-returns-3
+returns-3 c =
+    let r = c .before .before .before .before .before .before in
+    let s = span (resided r) in
+    let all = r .all-resident .ensures .yes (c .before .before .before .before .before .if4 .taken) in
     written s (resident-stay s all) (resident-decided s all) refl (c .before .before .store .ensures)
 
 survey-requires : tie.Need-survey-requires
-survey-requires c κs = let s = span
-    (c .before .before .before .before .before .before .before .before .before .before .before .before) in (omega arith, end-inside s, span-lookable s)
+survey-requires c κs = let s = span (c .before .before .before .before .before .before .before .before .before .before .before .before .before) in (omega arith, end-inside s, span-lookable s)
 
 settled-requires : tie.Need-settled-requires
-settled-requires c κs = admitted (span (c .before .before .before .before .before .before .before .before .before .before .before .before .before)) .sizes-ok
+settled-requires c κs = admitted (span (c .before .before .before .before .before .before .before .before .before .before .before .before .before .before)) .sizes-ok
 
-returns-3 : tie.Need-returns-3
-returns-3 c = refused-short (span (paged (c .before))) (decision (c .before)) (c .if3 .taken)
+returns-4 : tie.Need-returns-4
+returns-4 c = refused-short (span (paged (c .before))) (decision (c .before)) (c .if5 .taken)
 
 touch-all-requires : tie.Need-touch-all-requires
 touch-all-requires c κs = (omega arith, span-touchable (span (paged (c .before .before .before .before .before .before .before))))
@@ -103,21 +128,21 @@ store-requires-2 c κs =
     let t = touched c in
     let p = paged (accepted t .before) in
     let all = t .touch-all .ensures (entry (checked p) .args .ram .now) in
-    (next-span (span p) all, next-lookable (span p) all)
+    (next-span (span p) all, next-table (span p) all)
 
-returns-4 : tie.Need-returns-4
-returns-4 c =
+returns-5 : tie.Need-returns-5
+returns-5 c =
     let t = touched (c .before .before .before) in
     let p = paged (accepted t .before) in
-    written (span p) (t .touch-all .ensures (entry (checked p) .args .ram .now)) (decision (accepted t .before)) (accepted t .if3 .left)
+    written (span p) (t .touch-all .ensures (entry (checked p) .args .ram .now)) (decision (accepted t .before)) (accepted t .if5 .left)
     (c .before .before .store2 .ensures)
 
 pub write-spec : {M : Type 1} → statement M
 write-spec =
     tie.close
     (tie.spec
-    (λ c κs. search needs) (λ c κs. search needs) returns page-of-requires pages-requires add-end all-resident-requires store-requires
-    (λ c. search needs) (λ c. search needs) (λ c. search needs) (λ c. search needs) (λ c. search needs) (λ c. search needs) returns-2 survey-requires
-    settled-requires (λ c. search needs) (λ c. search needs) (λ c. search needs) (λ c. search needs) (λ c. search needs) returns-3 touch-all-requires
-    store-requires-2 (λ c. search needs) (λ c. search needs) (λ c. search needs) (λ c. search needs) (λ c. search needs) (λ c. search needs)
-    (λ c. search needs) returns-4)
+    (λ c κs. search needs) (λ c κs. search needs) returns page-of-requires pages-requires cast-frame-of frame-of-requires store-frame-requires
+    (λ c. search needs) (λ c. search needs) (λ c. search needs) (λ c. search needs) (λ c. search needs) (λ c. search needs) returns-2 add-end all-resident-requires store-requires
+    (λ c. search needs) (λ c. search needs) (λ c. search needs) (λ c. search needs) (λ c. search needs) (λ c. search needs) returns-3 survey-requires settled-requires
+    (λ c. search needs) (λ c. search needs) (λ c. search needs) (λ c. search needs) (λ c. search needs) returns-4 touch-all-requires store-requires-2
+    (λ c. search needs) (λ c. search needs) (λ c. search needs) (λ c. search needs) (λ c. search needs) (λ c. search needs) (λ c. search needs) returns-5)
