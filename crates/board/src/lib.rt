@@ -84,7 +84,7 @@ pub fn touch(
         (memory (now (head .exit)) (now (index .entry)) (now (count .exit)) (now (table .exit)) (now (helper .exit)) (now (stack .exit)) (now (cache .exit))
         (now (link .exit)) ram)) ⌝ }
 {
-    let out = touching::touch(
+    let touched = touching::touch(
         *head,
         space,
         page,
@@ -96,8 +96,10 @@ pub fn touch(
         cache,
         link,
     );
-    *head = out.head;
-    out.answer
+    head.first = touched.head.first;
+    head.many = touched.head.many;
+    head.fresh = touched.head.fresh;
+    touched.answer
 }
 
 // Whether a page is resident, and its frame. Changes nothing.
@@ -255,7 +257,7 @@ pub fn write(
         (memory (now (head .exit)) (now (index .entry)) (now (count .exit)) (now (table .exit)) (now (helper .exit)) (now (stack .exit)) (now (cache .exit))
         (now (link .exit)) (now (ram .exit))) ⌝ }
 {
-    let out = writing::write(
+    let written = writing::write(
         *head,
         space,
         address,
@@ -269,8 +271,10 @@ pub fn write(
         link,
         ram,
     );
-    *head = out.head;
-    out.answer
+    head.first = written.head.first;
+    head.many = written.head.many;
+    head.fresh = written.head.fresh;
+    written.answer
 }
 
 // One record a region of a space, ascending. Those after the last stay. All that is decided is decided in crate
