@@ -11,13 +11,13 @@ use mir.Syntax.{Body as Code, w32, tyInt, tcons, tnil, deref, field, place, copy
 use mir.Val.{Val, Vals, vint, vptr, vstruct, vcons, vnil, hasTy, WT}
 use mir.Fields.{getV, setV}
 use mir.Raw.{raw as rawTy}
-use base.Logic.{SProp, ent, sep, ex, via, snd∗, exE, guardI}
+use base.Logic.{SProp, ent, sep, ex, via, fst∗, snd∗, exE, guardI}
 use base.Fml.{Fml, Lft, Share, fat, froom, fdies, flft, fbor, fres}
 use prog.Memory.{fieldOf}
 use prog.Wp.{Heap, spotOf, Env, Calls, Loops}
 use ghost.Atoms.{Atoms, sem}
 use contract.Lifetimes.{Lfts}
-use contract.Monad.{fact, fact-use}
+use contract.Monad.{fact, fact-mono, fact-use}
 use types.Run.{look, init, store-raw, stop, hop, fld, from, load, of-opd, assigns, land, returns}
 use types.Part.{whole, sub, look-in, store-in}
 use types.SemTy.{Body}
@@ -230,3 +230,7 @@ pub follows : {M : Type 1} (𝓤 : URA M) (H : Heap 𝓤) (A : Atoms 𝓤) (S : 
     (a : Args (S .signature) κs) (g : c κs a .ghost) (r : Res (S .signature) κs) (φ : Type 0)
     → ((e : AtExit S κs) → ent 𝓤 (c κs a .ensures g r e) (fact 𝓤 φ)) → ent 𝓤 (ensured 𝓤 H A S c κs a g r) (fact 𝓤 φ)
 follows 𝓤 H A S c κs a g r φ k = exE 𝓤 _ (λ ws. via 𝓤 _ (snd∗ 𝓤 (sem 𝓤 H A (lasts S κs a ws)) _) (k (atExit S κs a ws)))
+
+-- the same from two clauses
+pub both : {M : Type 1} (𝓤 : URA M) (φ ψ χ : Type 0) → (φ → ψ → χ) → ent 𝓤 (sep 𝓤 (fact 𝓤 φ) (fact 𝓤 ψ)) (fact 𝓤 χ)
+both 𝓤 φ ψ χ k = fact-use 𝓤 φ (fst∗ 𝓤 (fact 𝓤 φ) (fact 𝓤 ψ)) (λ p. via 𝓤 (fact 𝓤 ψ) (snd∗ 𝓤 (fact 𝓤 φ) (fact 𝓤 ψ)) (fact-mono 𝓤 ψ χ (k p)))

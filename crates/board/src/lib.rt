@@ -1,4 +1,6 @@
 // The board's entrance: the pager's calls with the head lent and changed in place.
+// Only a start stores the whole head. The other calls leave the sizes, and a release the first frame never used too,
+// so they store no more than may change: the compiler can't tell head from tables, and would store all.
 use listing::last_region;
 use listing::survey;
 use machine::Copied;
@@ -152,9 +154,10 @@ pub fn release(
         (releasedSays r)
         (memory (now (head .exit)) (now (index .entry)) (now (count .exit)) (now (table .entry)) helper (now (stack .entry)) cache (now (link .exit)) ram)) ⌝ }
 {
-    let out = releasing::release(*head, space, page, index, count, table, stack, link);
-    *head = out.head;
-    out.answer
+    let released = releasing::release(*head, space, page, index, count, table, stack, link);
+    head.first = released.head.first;
+    head.many = released.head.many;
+    released.answer
 }
 
 // The frames in the pool. Lent nothing but the head.

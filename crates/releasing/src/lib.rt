@@ -127,6 +127,7 @@ fn splice(
 }
 
 // Gives back every page of the region that starts at a page, in constant time.
+// On any memory the first frame never used stays the same, so that a caller who was lent the head needn't store it.
 pub fn release(
     head: Head,
     space: u32,
@@ -142,6 +143,7 @@ pub fn release(
         (memory head (now (index .entry)) (now (count .entry)) (now (table .entry)) helper (now (stack .entry)) cache (now (link .entry)) ram)
         (releasedSays (r .answer))
         (memory (r .head) (now (index .entry)) (now (count .exit)) (now (table .entry)) helper (now (stack .entry)) cache (now (link .exit)) ram)) ⌝ }
+    ensures { λ r. ⌜ r .head .fresh ≡ head .fresh ⌝ }
 {
     let todo = cut_of(head, space, page, index, count, table, stack, link);
     match todo {

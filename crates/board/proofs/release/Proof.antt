@@ -1,10 +1,9 @@
 -- `board::release` meets its contract: a walk of its MIR, by hand.
 -- Assumes nothing.
-use Rattle.board.proofs.Words.{refl, ap, [], _∷_, List, URA, named, w32, vptr, SProp, emp, via, fst∗, id⊢, flft, Memory, Routine, Heap, WpFn, Tables}
+use Rattle.board.proofs.Words.{refl, ap, [], _∷_, List, URA, named, w32, vptr, SProp, emp, via, fst∗, flft, Memory, Routine, Heap, WpFn, Tables}
 use Rattle.board.proofs.Words.{Atoms, Fun, givenOf, tables, tablesOf, Given, ‵, raw, _⊛_, _$_, _∵_, !, qed, no-more, fmOf, Valss, flat, owns, valss}
 use Rattle.board.proofs.Words.{u32, u64, ptr-vals, mut-tells, typesAt, calls-at, alive, Meets, tripleOf, Contract, Triple, ensured, atExit, Fins}
 use Rattle.board.proofs.Words.{lastsOf, only, entered, cited}
-use contract.Monad.{factI}
 use denote.Enum.Laws as EL
 use denote.Struct.Laws as LL
 use Rattle.memory.proofs.Head as T
@@ -18,7 +17,7 @@ use Rattle.releasing.proofs.release.Symbol.{name as #g}
 use Rattle.releasing.proofs.release.Met as g-thm
 use Rattle.board.proofs.Walks.{Kind, word, shared, unique, typesOf, spellsOf, tellsOf, typedOf, meets, others, headVal, enters, opens-head, relend}
 use Rattle.board.proofs.Walks.{arg, settled}
-use Rattle.board.proofs.Pooling.{all, stores}
+use Rattle.board.proofs.Pooling.{chain, chain-changes, stores, follows, both}
 use Rattle.board.proofs.release.Key.{name as #f}
 use Rattle.board.proofs.release as f
 use Rattle.board.proofs.release.Statement as stated
@@ -48,18 +47,20 @@ module _ {M : Type 1} (𝓤 : URA M) (H : Heap 𝓤) (A : Atoms 𝓤) (W : Given
       relend ! refl refl refl refl refl refl refl refl (are .1 .1 .1 .1 .1 .1 .1 .0 .0 .1 .0) $
       calls-at ! (fmOf 𝓤 H (W .laws) 𝓣) (Callee 𝓤 H A mem run) known ((κs .1, qs .1, tt, (a .0 .now, a .1), (headVal (a .0 .now) ∷ [], vals)), tt)
       (arg ! refl (arg ! refl (arg ! refl (arg ! refl (arg ! refl (arg ! refl (arg ! refl (arg ! refl (no-more !))))))))) (λ v.
-      stores ! all (κs .0) (qs .0) (a .0) P O.the-row R.the-row (λ r. r .head) (λ r. r .answer) (EL.val R.the-type R′.the-laws)
+      stores ! chain (κs .0) (qs .0) (a .0) P O.the-row R.the-row (λ r. r .head) (λ r. r .answer) (EL.val R.the-type R′.the-laws)
       (ensured 𝓤 H A g.ended (g.clauses 𝓤 H A mem run) (κs .1) (a .0 .now, a .1) tt) (ensured 𝓤 H A f.ended (f.clauses 𝓤 H A mem run) κs a tt) v
       (λ r is. (
         ap only (LL.tells O.the-type O′.the-laws r (v ∷ []) is),
         (LL.owed O.the-type O′.the-laws r (v ∷ []) is .0, LL.owed O.the-type O′.the-laws r (v ∷ []) is .1 .0),
       ))
       (λ r is. LL.lawful O.the-type O′.the-laws 𝓤 H A W .typed r (v ∷ []) is .0) (λ y is. EL.lawful R.the-type R′.the-laws 𝓤 H A W tt .typed y _ is .0)
-      (EL.makes R.the-type R′.the-plain 𝓤 H A) (λ r. factI 𝓤 _ _ refl)
+      (EL.makes R.the-type R′.the-plain 𝓤 H A)
+      (λ r. follows 𝓤 H A g.ended (g.clauses 𝓤 H A mem run) (κs .1) (a .0 .now, a .1) tt r _
+      (λ e. both 𝓤 _ _ _ (λ did same. chain-changes refl (did [] [] []) same)))
       (λ r. settled 𝓤 H A W (Fins κs (others (f.signature .params)) (f.ended .kept .1) (a .1))
       (lastsOf κs (others (f.signature .params)) (f.ended .kept .1) (a .1)) (a .0 .name) (r .head)
       (λ ws. g.clauses 𝓤 H A mem run (κs .1) (a .0 .now, a .1) .ensures tt r (atExit g.ended (κs .1) (a .0 .now, a .1) ws))
-      (λ ws. f.clauses 𝓤 H A mem run κs a .ensures tt (r .answer) (atExit f.ended κs a ws)) (λ y. id⊢ 𝓤 _))
+      (λ ws. f.clauses 𝓤 H A mem run κs a .ensures tt (r .answer) (atExit f.ended κs a ws)) (λ y. both 𝓤 _ _ _ (λ did same. did)))
       refl refl (λ w. refl) (λ w. refl) (λ w. tt) (λ w. refl)))))
 
 pub release-spec : {M : Type 1} → stated.statement M

@@ -37,7 +37,7 @@ returns-5 c =
     let t = c .before .before .before .before .before .before in
     λ buffer records ram.
     rw (t .before .before .before .before .before .before .enum-told5 .given .1)
-    (released-serves _ _ _ _ _ _ (t .release .result .answer) (t .release .ensures _ _ _) (c .of-released .ensures))
+    (released-serves _ _ _ _ _ _ (t .release .result .answer) (t .release .ensures .0 _ _ _) (c .of-released .ensures))
 
 pub serve-page-spec : {M : Type 1} → statement M
 serve-page-spec =
