@@ -3,10 +3,9 @@
  * tables, at sizes of one, two and three index layers. The method must give the pager's every answer, byte and frame.
  * The cleared table doesn't know in which order pages were mapped, so its pool's order is the pager's only where each
  * region's pages are mapped ascending; there it must give every answer too, elsewhere all but frames and bytes.
- * Then all of it again with the four calls that have the checks in C in the pager's place, and these against the
- * pager's own on heads and lengths by chance.
+ * Then all of it again with the six calls that have the checks in C in the pager's place; and everything once more with
+ * what clang compiled. Last the refusals of these six calls against the pager's own, on heads, lengths and tables by chance.
  */
-#include "checked.h"
 #include "driver.h"
 
 #include <stdio.h>
@@ -23,7 +22,8 @@ static uint32_t draw(uint32_t below)
     return (uint32_t)((seed >> 33) * below >> 31);
 }
 
-static engine e[ENGINES];
+/* All of them, and the three that are held to each other now. */
+static engine all[ALL], e[ENGINES];
 
 static uint8_t bytes[MOST], got[ENGINES][MOST];
 
@@ -32,9 +32,9 @@ static uint32_t spaces, pages, frames;
 /* The next page to map in each space, where pages are mapped ascending. */
 static uint32_t rising[64];
 
-static void fail(const char *call, int engine, uint32_t space, uint32_t page, answer want, answer is)
+static void fail(const char *call, const engine *who, uint32_t space, uint32_t page, answer want, answer is)
 {
-    fprintf(stderr, "%s of %s differs at space %u, page %u: %u %u %llu instead of %u %u %llu\n", call, e[engine].name,
+    fprintf(stderr, "%s of %s differs at space %u, page %u: %u %u %llu instead of %u %u %llu\n", call, who->name,
             space, page, is.kind, is.words, (unsigned long long)is.value, want.kind, want.words,
             (unsigned long long)want.value);
     exit(1);
@@ -47,7 +47,59 @@ static void same(const char *call, uint32_t space, uint32_t page, const answer r
         int free_choice = i == CLEARED && !ascending &&
                           (k == CORWYSTAL_OLD || k == CORWYSTAL_NEW || k == CORWYSTAL_RESIDENT || k == CORWYSTAL_AT);
         if (k != r[i].kind || r[PAGER].words != r[i].words || (!free_choice && r[PAGER].value != r[i].value))
-            fail(call, i, space, page, r[PAGER], r[i]);
+            fail(call, &e[i], space, page, r[PAGER], r[i]);
+    }
+}
+
+static void mark_or_drop(int marks, uint32_t space, uint32_t page)
+{
+    answer r[ENGINES];
+    /* the cleared table allows cuts that the pager refuses with 7: it gets the accepted ones */
+    for (int i = 0; i < ENGINES; i++)
+        if (i == CLEARED && r[PAGER].kind == CORWYSTAL_RESIDENT_PAGES)
+            r[i] = r[PAGER];
+        else
+            r[i] = marks ? e[i].mark(e[i].state, space, page) : e[i].drop(e[i].state, space, page);
+    same(marks ? "mark" : "drop", space, page, r, 1);
+}
+
+/* Every region is released and every start dropped. */
+static void empty(void)
+{
+    answer r[ENGINES];
+    for (uint32_t space = 0; space < spaces; space++)
+        for (uint32_t page = 0; page < pages; page++) {
+            for (int i = 0; i < ENGINES; i++)
+                r[i] = e[i].release(e[i].state, space, page);
+            same("release", space, page, r, 1);
+            mark_or_drop(0, space, page);
+        }
+}
+
+/* Few starts, far apart, so that words of the upper layers become 0 and are set again. */
+static void few_starts(void)
+{
+    answer r[ENGINES];
+    for (int k = 0; k < 2000; k++) {
+        uint32_t space = draw(spaces), page = draw(8) * pages / 8;
+        mark_or_drop(draw(2) == 0, space, page);
+        page = draw(pages);
+        for (int i = 0; i < ENGINES; i++)
+            r[i] = e[i].look(e[i].state, space, page);
+        same("look", space, page, r, 1);
+    }
+}
+
+/* The index is the same, word for word. */
+static void same_index(void)
+{
+    const corwystal_board *b = e[PAGER].state;
+    const method *m = e[METHOD].state;
+    const cleared *c = e[CLEARED].state;
+    if (memcmp(b->index, m->marks.layer[0], m->marks.words * sizeof(uint64_t)) != 0 ||
+        memcmp(b->index, c->marks.layer[0], c->marks.words * sizeof(uint64_t)) != 0) {
+        fprintf(stderr, "the index of %s and of %s differ; see their marks and drops\n", e[PAGER].name, e[METHOD].name);
+        exit(1);
     }
 }
 
@@ -74,14 +126,7 @@ static void play(int ascending)
         n = PAGE;
     }
     if (which == 0 || which == 1) {
-        /* the cleared table allows cuts that the pager refuses with 7: it gets the accepted ones */
-        r[PAGER] = which == 0 ? e[PAGER].mark(e[PAGER].state, space, page) : e[PAGER].drop(e[PAGER].state, space, page);
-        for (int i = METHOD; i < ENGINES; i++) {
-            r[i] = r[PAGER];
-            if (i == METHOD || r[PAGER].kind != CORWYSTAL_RESIDENT_PAGES)
-                r[i] = which == 0 ? e[i].mark(e[i].state, space, page) : e[i].drop(e[i].state, space, page);
-        }
-        same(which == 0 ? "mark" : "drop", space, page, r, 1);
+        mark_or_drop(which == 0, space, page);
     } else if (which == 2 || which == 3) {
         for (int i = 0; i < ENGINES; i++)
             r[i] = e[i].release(e[i].state, space, page);
@@ -103,7 +148,7 @@ static void play(int ascending)
             r[i] = e[i].read(e[i].state, space, address, got[i], n);
         same("read", space, page, r, ascending);
         if (memcmp(got[PAGER], got[METHOD], n) != 0 || (ascending && memcmp(got[PAGER], got[CLEARED], n) != 0))
-            fail("bytes", METHOD, space, page, r[PAGER], r[METHOD]);
+            fail("bytes", &e[METHOD], space, page, r[PAGER], r[METHOD]);
     } else {
         for (size_t k = 0; k < n; k++)
             bytes[k] = (uint8_t)draw(256);
@@ -123,34 +168,65 @@ static uint32_t odd(uint32_t usual)
 /* A length that suffices or just doesn't. */
 static size_t nearly(size_t enough) { return draw(12) != 0 ? enough : draw(2) == 0 ? enough - 1 : draw(enough); }
 
-/* Refusals 1 to 3 of a touch, on any head and lengths, by the pager and by the checks in C. */
+/* Tables that no call left: what stands in them is near what they could hold, so that some of it is believed. */
+static void damage(const corwystal_board *b, size_t n)
+{
+    uint32_t *tables[] = {b->count, b->table, b->helper, b->stack, b->cache};
+    for (size_t k = 0; k < CORWYSTAL_INDEX_WORDS(n); k++)
+        b->index[k] = draw(3) == 0 ? 0 : (uint64_t)draw(UINT32_MAX) << draw(64);
+    for (size_t t = 0; t < sizeof tables / sizeof *tables; t++)
+        for (size_t k = 0; k < n; k++)
+            tables[t][k] = odd(draw(draw(2) == 0 ? 4 : (uint32_t)n));
+    for (size_t k = 0; k < 300; k++)
+        b->link[k] = odd(draw(300));
+}
+
+/* Refusals 1 to 3 of the six calls, on any head, lengths and tables, by the pager and by the checks in C of both compilers. */
 static void refusals(void)
 {
-    corwystal_board *b = e[PAGER].state;
+    static const int engines[] = {PAGER, CHECKED, CLANG_CHECKED};
+    static const char *const calls[] = {"mark", "drop", "touch", "look", "release", "translate"};
+    corwystal_board *b = all[PAGER].state, whole = *b;
+    size_t n = PLACES / 2;
     for (int k = 0; k < 400000; k++) {
-        corwystal_head h = {odd(4), odd(1024), odd(300), odd(9), 0, 0, 0}, one = h, other = h;
+        corwystal_head h = {odd(4), odd(1024), odd(300), odd(9), odd(draw(300)), odd(draw(300)), odd(draw(300))};
         uint32_t space = odd(draw(4)), page = odd(draw(1024));
-        size_t n = PLACES / 2, i = nearly(CORWYSTAL_INDEX_WORDS(n)), c = nearly(n), t = nearly(n), p = nearly(n),
-               s = nearly(n), x = nearly(n), l = nearly(300);
-        answer a = corwystal_touch(&one, space, page, b->index, i, b->count, c, b->table, t, b->helper, p, b->stack, s,
-                                   b->cache, x, b->link, l);
-        answer d = checked_touch(&other, space, page, b->index, i, b->count, c, b->table, t, b->helper, p, b->stack, s,
-                                 b->cache, x, b->link, l);
-        if ((a.kind <= 3 || d.kind <= 3) && a.kind != d.kind)
-            fail("refusal", PAGER, space, page, d, a);
+        size_t address = draw(8) == 0 ? SIZE_MAX - draw(512) : (size_t)page << 9 | draw(512);
+        if (k % 1000 == 0)
+            damage(b, n);
+        b->index_len = nearly(CORWYSTAL_INDEX_WORDS(n));
+        b->count_len = nearly(n);
+        b->table_len = nearly(n);
+        b->helper_len = nearly(n);
+        b->stack_len = nearly(n);
+        b->cache_len = nearly(n);
+        b->link_len = nearly(300);
+        for (size_t c = 0; c < sizeof calls / sizeof *calls; c++) {
+            answer r[3];
+            for (int i = 0; i < 3; i++) {
+                const engine *x = &all[engines[i]];
+                answer (*const of[])(void *, uint32_t, uint32_t) = {x->mark, x->drop, x->touch, x->look, x->release};
+                b->head = h;
+                r[i] = c < 5 ? of[c](b, space, page) : x->translate(b, space, address);
+                if ((r[0].kind <= 3 || r[i].kind <= 3) && r[0].kind != r[i].kind)
+                    fail(calls[c], x, space, page, r[0], r[i]);
+            }
+        }
     }
+    *b = whole;
 }
 
 int main(void)
 {
     static const uint32_t sizes[][3] = {{1, 64, 40},   {1, 65, 512},  {3, 21, 30},   {4, 1024, 512},
                                         {1, 4097, 300}, {2, 4096, 512}, {64, 128, 512}};
-    engines_make(e, PLACES, FRAMES, FRAMES * PAGE);
+    engines_make(all, PLACES, FRAMES, FRAMES * PAGE);
     size_t calls = 0;
-    for (int pass = 0; pass < 4; pass++) {
-        int ascending = pass % 2;
-        if (pass == 2)
-            e[PAGER] = checked_make(&e[PAGER]);
+    for (int pass = 0; pass < 8; pass++) {
+        int ascending = pass % 2, checks = pass / 2 % 2, clang = pass / 4;
+        e[PAGER] = all[!checks ? PAGER : clang ? CLANG_CHECKED : CHECKED];
+        e[METHOD] = all[clang ? CLANG_METHOD : METHOD];
+        e[CLEARED] = all[clang ? CLANG_CLEARED : CLEARED];
         for (size_t s = 0; s < sizeof sizes / sizeof *sizes; s++) {
             spaces = sizes[s][0];
             pages = sizes[s][1];
@@ -164,12 +240,19 @@ int main(void)
             }
             for (int k = 0; k < CALLS; k++, calls++)
                 play(ascending);
-            if (memcmp(e[PAGER].ram, e[METHOD].ram, frames * PAGE) != 0)
+            if (memcmp(e[PAGER].ram, e[METHOD].ram, frames * PAGE) != 0) {
+                fprintf(stderr, "the RAM of %s and of %s differ; see their writes\n", e[PAGER].name, e[METHOD].name);
                 return 1;
+            }
+            same_index();
+            empty();
+            same_index();
+            few_starts();
+            same_index();
         }
     }
     refusals();
     printf("check: %zu calls, the same answers\n", calls);
-    engines_free(e);
+    engines_free(all);
     return 0;
 }

@@ -1,5 +1,5 @@
 /*
- * What the checks cost any program: four calls of the pager written by hand in C with all that document 01 demands of
+ * What the checks cost any program: six calls of the pager written by hand in C with all that document 01 demands of
  * every call (refusals 1 to 3 on any head and any lengths, nothing undefined on any tables), through the same long
  * entrance and over the same head and buffers. Only instruction counts are compared with it.
  */
@@ -84,6 +84,54 @@ static __attribute__((noinline)) found find(const uint64_t *index, size_t t, siz
         return (found){SIZE_MAX, 4};
     at = up * 64 + highest(above[up]);
     return (found){at >= low || index[at] == 0 ? SIZE_MAX : at * 64 + highest(index[at]), 5};
+}
+
+static inline int marked(const uint64_t *index, size_t p) { return index[p / 64] >> (p % 64) & 1; }
+
+answer checked_mark(const corwystal_head *head, uint32_t space, uint32_t page, uint64_t *index, size_t index_len,
+                    const uint32_t *count, size_t count_len)
+{
+    if (!LIKELY(page < head->pages) || !passes(head, space, index_len, count_len, SIZE_MAX))
+        return refusal(head, space, index_len, count_len, SIZE_MAX);
+    size_t t = (size_t)head->spaces * head->pages, lo = (size_t)space * head->pages, p = lo + page;
+    if (marked(index, p))
+        return SAY(CORWYSTAL_START_ALREADY, 0, 0);
+    size_t start = find(index, t, p).start;
+    if (start >= lo && start <= p && count[start] != 0)
+        return SAY(CORWYSTAL_RESIDENT_PAGES, 0, 0);
+    /* the bit and, where its word was 0, the bits above it */
+    uint64_t *word = index + p / 64, old = *word;
+    *word = old | 1ull << (p % 64);
+    if (old != 0 || t <= 64)
+        return SAY(CORWYSTAL_DONE, 0, 0);
+    size_t low = (t + 63) / 64;
+    word = index + low + p / 4096;
+    old = *word;
+    *word = old | 1ull << (p / 64 % 64);
+    if (old != 0 || t <= 4096)
+        return SAY(CORWYSTAL_DONE, 0, 0);
+    index[low + (low + 63) / 64] |= 1ull << (p / 4096);
+    return SAY(CORWYSTAL_DONE, 0, 0);
+}
+
+answer checked_drop(const corwystal_head *head, uint32_t space, uint32_t page, uint64_t *index, size_t index_len,
+                    const uint32_t *count, size_t count_len)
+{
+    if (!LIKELY(page < head->pages) || !passes(head, space, index_len, count_len, SIZE_MAX))
+        return refusal(head, space, index_len, count_len, SIZE_MAX);
+    size_t t = (size_t)head->spaces * head->pages, p = (size_t)space * head->pages + page;
+    if (!marked(index, p))
+        return SAY(CORWYSTAL_NO_START, 0, 0);
+    if (count[p] != 0)
+        return SAY(CORWYSTAL_RESIDENT_PAGES, 0, 0);
+    /* the bit and, where its word is 0 then, the bits above it */
+    if ((index[p / 64] &= ~(1ull << (p % 64))) != 0 || t <= 64)
+        return SAY(CORWYSTAL_DONE, 0, 0);
+    size_t low = (t + 63) / 64;
+    if ((index[low + p / 4096] &= ~(1ull << (p / 64 % 64))) != 0 || t <= 4096)
+        return SAY(CORWYSTAL_DONE, 0, 0);
+    index[low + (low + 63) / 64] &= ~(1ull << (p / 4096));
+    return SAY(CORWYSTAL_DONE, 0, 0);
 }
 
 answer checked_touch(corwystal_head *head, uint32_t space, uint32_t page, const uint64_t *index, size_t index_len,

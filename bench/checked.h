@@ -1,8 +1,18 @@
-/* Four of the pager's calls by hand in C with the pager's checks: the arguments are those of corwystal.h. */
+/*
+ * Six of the pager's calls by hand in C with the pager's checks: the arguments are those of corwystal.h. The faces hand over
+ * the pager's own record (faces.c).
+ */
 #ifndef CHECKED_H
 #define CHECKED_H
 
+#include "../bindings/c/corwystal_board.h"
 #include "engines.h"
+
+answer checked_mark(const corwystal_head *head, uint32_t space, uint32_t page, uint64_t *index, size_t index_len,
+                    const uint32_t *count, size_t count_len);
+
+answer checked_drop(const corwystal_head *head, uint32_t space, uint32_t page, uint64_t *index, size_t index_len,
+                    const uint32_t *count, size_t count_len);
 
 answer checked_touch(corwystal_head *head, uint32_t space, uint32_t page, const uint64_t *index, size_t index_len,
                      uint32_t *count, size_t count_len, uint32_t *table, size_t table_len, uint32_t *helper,
@@ -22,5 +32,12 @@ answer checked_translate(const corwystal_head *head, uint32_t space, size_t addr
                          size_t index_len, const uint32_t *count, size_t count_len, const uint32_t *table,
                          size_t table_len, const uint32_t *helper, size_t helper_len, const uint32_t *stack,
                          size_t stack_len, const uint32_t *cache, size_t cache_len);
+
+answer face_mark(corwystal_board *b, uint32_t space, uint32_t page);
+answer face_drop(corwystal_board *b, uint32_t space, uint32_t page);
+answer face_touch(corwystal_board *b, uint32_t space, uint32_t page);
+answer face_look(corwystal_board *b, uint32_t space, uint32_t page);
+answer face_release(corwystal_board *b, uint32_t space, uint32_t page);
+answer face_translate(corwystal_board *b, uint32_t space, size_t address);
 
 #endif

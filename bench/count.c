@@ -92,6 +92,32 @@ static void touches(const engine *e)
     }
 }
 
+/*
+ * (b) Marks and drops that change one, two or three index words. Place 0 is a start and its region empty; beside it there is
+ * no start but the one that is marked or dropped, 1, 64 or 4,096 places and multiples of that further. So a mark's find reads
+ * 1, 3 or 5 words.
+ */
+static void marks_and_drops(const engine *e)
+{
+    answer a;
+    static const uint32_t apart[3] = {1, 64, 4096};
+    fresh(e);
+    for (uint32_t l = 0; l < 3; l++) {
+        for (uint32_t p = apart[l]; p < 64 * apart[l]; p += apart[l]) {
+            COUNTED(e->mark(e->state, 0, p));
+            expect(a, CORWYSTAL_DONE, "mark");
+            expect(e->drop(e->state, 0, p), CORWYSTAL_DONE, "drop");
+        }
+        dump(e, "mark", l + 1);
+        for (uint32_t p = apart[l]; p < 64 * apart[l]; p += apart[l]) {
+            expect(e->mark(e->state, 0, p), CORWYSTAL_DONE, "mark");
+            COUNTED(e->drop(e->state, 0, p));
+            expect(a, CORWYSTAL_DONE, "drop");
+        }
+        dump(e, "drop", l + 1);
+    }
+}
+
 /* (c) Resident addresses and spans. */
 static void translates(const engine *e)
 {
@@ -143,18 +169,18 @@ static answer plain_clear(const corwystal_board *b)
 
 int main(void)
 {
-    engine e[ENGINES + 1];
+    engine e[ALL];
     engines_make(e, PLACES, FRAMES, (size_t)FRAMES * PAGE);
-    e[CHECKED] = checked_make(&e[PAGER]);
-    for (int i = 0; i <= CHECKED; i++) {
+    for (int i = 0; i < ALL; i++) {
         static const size_t pages[] = {1, 16, 256, 4096, 65536};
         answer a;
         for (size_t k = 0; k < sizeof pages / sizeof *pages; k++)
             releases(&e[i], pages[k], pages[k] < 4096 ? 16 : 3);
         touches(&e[i]);
+        marks_and_drops(&e[i]);
         translates(&e[i]);
-        if (i == CHECKED)
-            break;
+        if (i == CHECKED || i == CLANG_CHECKED)
+            continue; /* the rest is the pager's */
         spans(&e[i]);
         for (int r = 0; r < 3; r++) {
             COUNTED(e[i].start(e[i].state, 1, PLACES, FRAMES, PAGE));

@@ -1,4 +1,4 @@
-/* The three engines' buffers, and the pager's calls with all that they are lent. */
+/* The engines' buffers, and their calls behind one face. */
 #include "driver.h"
 
 #include "checked.h"
@@ -10,32 +10,37 @@
 /* One face for all: a call through a pointer to a function of the engine's own record. */
 #define FACE(f) ((void *)(f))
 
-/* ---- the calls with the checks in C, over the same record */
+/* The same units by the other compiler: bench/build gives each of their names this prefix. */
+#define TWIN(f) extern __typeof__(f) clang_##f
+#define TWINS(unit)                                                                                                    \
+    TWIN(unit##_start);                                                                                                \
+    TWIN(unit##_mark);                                                                                                 \
+    TWIN(unit##_drop);                                                                                                 \
+    TWIN(unit##_touch);                                                                                                \
+    TWIN(unit##_look);                                                                                                 \
+    TWIN(unit##_release);                                                                                              \
+    TWIN(unit##_translate);                                                                                            \
+    TWIN(unit##_read);                                                                                                 \
+    TWIN(unit##_write)
 
-static answer face_touch(corwystal_board *b, uint32_t space, uint32_t page)
-{
-    return checked_touch(&b->head, space, page, b->index, b->index_len, b->count, b->count_len, b->table,
-                         b->table_len, b->helper, b->helper_len, b->stack, b->stack_len, b->cache, b->cache_len,
-                         b->link, b->link_len);
-}
+TWINS(method);
+TWINS(cleared);
+TWIN(face_mark);
+TWIN(face_drop);
+TWIN(face_touch);
+TWIN(face_look);
+TWIN(face_release);
+TWIN(face_translate);
 
-static answer face_look(corwystal_board *b, uint32_t space, uint32_t page)
-{
-    return checked_look(&b->head, space, page, b->index, b->index_len, b->count, b->count_len, b->table,
-                        b->table_len, b->helper, b->helper_len, b->stack, b->stack_len, b->cache, b->cache_len);
-}
+/* An engine with all its calls, in the order of the record. */
+#define WHOLE(unit)                                                                                                    \
+    FACE(unit##_start), FACE(unit##_mark), FACE(unit##_drop), FACE(unit##_touch), FACE(unit##_look),                   \
+        FACE(unit##_release), FACE(unit##_translate), FACE(unit##_read), FACE(unit##_write)
 
-static answer face_release(corwystal_board *b, uint32_t space, uint32_t page)
-{
-    return checked_release(&b->head, space, page, b->index, b->index_len, b->count, b->count_len, b->table,
-                           b->table_len, b->stack, b->stack_len, b->link, b->link_len);
-}
-
-static answer face_translate(corwystal_board *b, uint32_t space, size_t address)
-{
-    return checked_translate(&b->head, space, address, b->index, b->index_len, b->count, b->count_len, b->table,
-                             b->table_len, b->helper, b->helper_len, b->stack, b->stack_len, b->cache, b->cache_len);
-}
+/* What the calls with the checks haven't of their own is the pager's. */
+#define CHECKS(unit)                                                                                                   \
+    FACE(corwystal_board_start), FACE(unit##_mark), FACE(unit##_drop), FACE(unit##_touch), FACE(unit##_look),          \
+        FACE(unit##_release), FACE(unit##_translate), FACE(corwystal_board_read), FACE(corwystal_board_write)
 
 /* ---- buffers */
 
@@ -51,7 +56,7 @@ static void *full(size_t bytes, int with)
     return p;
 }
 
-void engines_make(engine e[ENGINES], size_t places, size_t frames, size_t ram)
+void engines_make(engine e[ALL], size_t places, size_t frames, size_t ram)
 {
     size_t words = CORWYSTAL_INDEX_WORDS(places), entries = places * sizeof(uint32_t);
 
@@ -68,9 +73,9 @@ void engines_make(engine e[ENGINES], size_t places, size_t frames, size_t ram)
     b->count_len = b->table_len = b->helper_len = b->stack_len = b->cache_len = places;
     b->link_len = frames;
     b->ram_len = ram;
-    e[PAGER] = (engine){"pager", b, FACE(corwystal_board_start), FACE(corwystal_board_mark), FACE(corwystal_board_drop), FACE(corwystal_board_touch),
-                        FACE(corwystal_board_look), FACE(corwystal_board_release), FACE(corwystal_board_translate), FACE(corwystal_board_read),
-                        FACE(corwystal_board_write), b->ram};
+    e[PAGER] = (engine){"pager", b, WHOLE(corwystal_board), b->ram};
+    e[CHECKED] = (engine){"checked", b, CHECKS(face), b->ram};
+    e[CLANG_CHECKED] = (engine){"clang_checked", b, CHECKS(clang_face), b->ram};
 
     method *m = calloc(1, sizeof *m);
     m->marks.layer[0] = full(words * sizeof(uint64_t), 0xa5);
@@ -81,32 +86,19 @@ void engines_make(engine e[ENGINES], size_t places, size_t frames, size_t ram)
     m->cache = full(entries, 0x01);
     m->link = full(frames * sizeof(uint32_t), 0xa5);
     m->ram = full(ram, 0);
-    e[METHOD] = (engine){"method", m, FACE(method_start), FACE(method_mark), FACE(method_drop), FACE(method_touch),
-                         FACE(method_look), FACE(method_release), FACE(method_translate), FACE(method_read),
-                         FACE(method_write), m->ram};
+    e[METHOD] = (engine){"method", m, WHOLE(method), m->ram};
+    e[CLANG_METHOD] = (engine){"clang_method", m, WHOLE(clang_method), m->ram};
 
     cleared *c = calloc(1, sizeof *c);
     c->marks.layer[0] = full(words * sizeof(uint64_t), 0xa5);
     c->table = full(entries, 0xa5);
     c->pool = full(frames * sizeof(uint32_t), 0xa5);
     c->ram = full(ram, 0);
-    e[CLEARED] = (engine){"cleared", c, FACE(cleared_start), FACE(cleared_mark), FACE(cleared_drop),
-                          FACE(cleared_touch), FACE(cleared_look), FACE(cleared_release), FACE(cleared_translate),
-                          FACE(cleared_read), FACE(cleared_write), c->ram};
+    e[CLEARED] = (engine){"cleared", c, WHOLE(cleared), c->ram};
+    e[CLANG_CLEARED] = (engine){"clang_cleared", c, WHOLE(clang_cleared), c->ram};
 }
 
-engine checked_make(const engine *pager)
-{
-    engine e = *pager;
-    e.name = "checked";
-    e.touch = FACE(face_touch);
-    e.look = FACE(face_look);
-    e.release = FACE(face_release);
-    e.translate = FACE(face_translate);
-    return e;
-}
-
-void engines_free(engine e[ENGINES])
+void engines_free(engine e[ALL])
 {
     corwystal_board *b = e[PAGER].state;
     method *m = e[METHOD].state;

@@ -1,5 +1,6 @@
 /*
- * The three engines behind one face, each with buffers of its own, so that one piece of code drives them all.
+ * The engines behind one face, so that one piece of code drives them all: the pager and two others, each with buffers of its
+ * own; the calls with the checks, over the pager's buffers; and all that is written by hand once more, by the other compiler.
  * The pager's face is corwystal_board.h: head and buffers in one record, handed over at each call, as a kernel would.
  */
 #ifndef DRIVER_H
@@ -23,16 +24,13 @@ typedef struct engine {
     uint8_t *ram;
 } engine;
 
-/* The fourth has only touch, look, release and translate of its own; the rest, and the memory, is the pager's. */
-enum { PAGER, METHOD, CLEARED, ENGINES, CHECKED = ENGINES };
+/* Those after the third use the memory of one of the three. Start, read and write of those with the checks are the pager's. */
+enum { PAGER, METHOD, CLEARED, ENGINES, CHECKED = ENGINES, CLANG_METHOD, CLANG_CLEARED, CLANG_CHECKED, ALL };
 
 /* Engines with room for these sizes, every table full of garbage. */
-void engines_make(engine e[ENGINES], size_t places, size_t frames, size_t ram);
+void engines_make(engine e[ALL], size_t places, size_t frames, size_t ram);
 
-/* The calls with the pager's checks in C, over the pager's memory. */
-engine checked_make(const engine *pager);
-
-void engines_free(engine e[ENGINES]);
+void engines_free(engine e[ALL]);
 
 /* Whether the answer is of the kind that the case is about: one that measures another thing ends the program. */
 void expect(answer a, uint32_t kind, const char *what);

@@ -15,7 +15,7 @@ enum { PLACES = 262144, FRAMES = 65536, SPREAD = 8 << 20, PLAIN = ENGINES };
 
 static uint8_t *buffer, *plain_ram, *plain_tables;
 
-static engine e[ENGINES];
+static engine e[ALL];
 
 static uint64_t empty;
 

@@ -314,7 +314,7 @@ static int counted(const engine e[ENGINES], const char *name)
 
 int main(int argc, char **argv)
 {
-    engine e[ENGINES];
+    engine e[ALL];
     int failed = 2;
     draw_all();
     engines_make(e, PLACES, FRAMES, (size_t)FRAMES * PAGE);

@@ -7,10 +7,8 @@ made=$(mktemp -d)
 trap 'rm -rf "$made"' EXIT
 
 bindings/library
-for unit in method cleared checked driver count; do
-    gcc -std=gnu11 -O3 -Wall -Wextra -c "bench/$unit.c" -o "$made/$unit.o"
-done
-gcc -Wl,-z,now -o "$made/count" "$made"/*.o target/bindings/libcorwystal.a
+bench/build "$made" target/bindings/libcorwystal.a check count
+"$made/check"
 valgrind --tool=callgrind --collect-atstart=no --compress-strings=no --compress-pos=no --callgrind-out-file="$made/dump" "$made/count" > "$made/log" 2>&1 || {
     cat "$made/log" >&2
     exit 1
