@@ -6,6 +6,7 @@
 #include <stdio.h>
 #include <stdlib.h>
 #include <string.h>
+#include <valgrind/valgrind.h>
 
 /* One face for all: a call through a pointer to a function of the engine's own record. */
 #define FACE(f) ((void *)(f))
@@ -44,17 +45,21 @@ TWIN(face_translate);
 
 /* ---- buffers */
 
-/* A page-aligned buffer full of one byte: no first access is left to be paid for while something is measured. */
-static void *full(size_t bytes, int with)
+static void *aligned(size_t bytes)
 {
     void *p = aligned_alloc(65536, (bytes + 65535) / 65536 * 65536);
     if (p == NULL) {
         fputs("no memory\n", stderr);
         exit(1);
     }
-    memset(p, with, bytes);
     return p;
 }
+
+/* A page-aligned buffer full of one byte: no first access is left to be paid for while something is measured. */
+static void *full(size_t bytes, int with) { return memset(aligned(bytes), with, bytes); }
+
+/* The RAM, which may hold anything. Where instructions are counted nobody pays for first accesses, and a fill takes seconds. */
+static void *full_ram(size_t bytes) { return RUNNING_ON_VALGRIND ? aligned(bytes) : full(bytes, 0); }
 
 void engines_make(engine e[ALL], size_t places, size_t frames, size_t ram)
 {
@@ -68,7 +73,7 @@ void engines_make(engine e[ALL], size_t places, size_t frames, size_t ram)
     b->stack = full(entries, 0xa5);
     b->cache = full(entries, 0x01);
     b->link = full(frames * sizeof(uint32_t), 0xa5);
-    b->ram = full(ram, 0);
+    b->ram = full_ram(ram);
     b->index_len = words;
     b->count_len = b->table_len = b->helper_len = b->stack_len = b->cache_len = places;
     b->link_len = frames;
@@ -85,7 +90,7 @@ void engines_make(engine e[ALL], size_t places, size_t frames, size_t ram)
     m->stack = full(entries, 0xa5);
     m->cache = full(entries, 0x01);
     m->link = full(frames * sizeof(uint32_t), 0xa5);
-    m->ram = full(ram, 0);
+    m->ram = full_ram(ram);
     e[METHOD] = (engine){"method", m, WHOLE(method), m->ram};
     e[CLANG_METHOD] = (engine){"clang_method", m, WHOLE(clang_method), m->ram};
 
@@ -93,7 +98,7 @@ void engines_make(engine e[ALL], size_t places, size_t frames, size_t ram)
     c->marks.layer[0] = full(words * sizeof(uint64_t), 0xa5);
     c->table = full(entries, 0xa5);
     c->pool = full(frames * sizeof(uint32_t), 0xa5);
-    c->ram = full(ram, 0);
+    c->ram = full_ram(ram);
     e[CLEARED] = (engine){"cleared", c, WHOLE(cleared), c->ram};
     e[CLANG_CLEARED] = (engine){"clang_cleared", c, WHOLE(clang_cleared), c->ram};
 }

@@ -1,41 +1,21 @@
 """Makes the tables of docs/MEASUREMENTS.md and the plots of docs/measurements from what bench/run measured."""
 import collections
-import glob
 import math
 import re
 import sys
 
+sys.dont_write_bytecode = True
+import aims  # noqa: E402
+
 out, doc, plots = sys.argv[1:4]
 
 ENGINES = ["pager", "method", "cleared"]
-NAMES = {"pager": "pager", "method": "C, no checks", "cleared": "cleared table", "checked": "C with the checks",
-         "plain": "memcpy"}
+NAMES = {"pager": "pager", "method": "C, no checks", "cleared": "cleared table", "checked": "C with the checks", "plain": "memcpy"}
 COLOURS = {"pager": "#1b6ca8", "method": "#d1752a", "cleared": "#4a8f3c", "checked": "#8a5aa5", "plain": "#777777"}
+BY_HAND = ["checked", "method", "cleared"]
 
 
 # ---- what was measured
-
-def dumps(folder):
-    """Instructions by case and function: the cost of each function with all that it calls, a counted action."""
-    cases = collections.defaultdict(dict)
-    for name in glob.glob(folder + "/*"):
-        case, function = None, None
-        cost = collections.Counter()
-        with open(name) as lines:
-            for line in lines:
-                if line.startswith("desc: Trigger: Client Request: "):
-                    case = line[len("desc: Trigger: Client Request: "):].strip()
-                elif line.startswith("fn="):
-                    function = line[3:].strip()
-                elif re.match(r"\d+ \d+", line):
-                    # its own lines, and after each `calls=` what that call cost
-                    cost[function] += int(line.split()[1])
-        if case:
-            what, size, engine, count = case.rsplit("/", 3)
-            for function, total in cost.items():
-                cases[what, int(size), engine][function] = total / int(count)
-    return cases
-
 
 def times(name):
     """Ticks by case and engine, and the ticks of a microsecond."""
@@ -63,16 +43,14 @@ def workload(name):
     return actions
 
 
-counts = dumps(out + "/counts")
+counts = aims.dumps(out + "/counts")
 clocked, rate = times(out + "/times")
 actions = workload(out + "/workload.played")
-kinds_counted = dumps(out + "/kinds")
+kinds_counted = aims.dumps(out + "/kinds")
 
 
 def inside(what, size, engine, call):
-    """Instructions of one call, in it and in all that it calls."""
-    prefix = {"pager": "corwystal_"}.get(engine, engine + "_")
-    return counts.get((what, size, engine), {}).get(prefix + call)
+    return aims.inside(counts, what, size, engine, call)
 
 
 def with_arguments(what, size, call):
@@ -95,14 +73,26 @@ def table(head, rows):
     return "\n".join(lines + ["| " + " | ".join(row) + " |" for row in rows])
 
 
+def both(engine):
+    """What one unit is called by either compiler."""
+    return [engine, "clang_" + engine]
+
+
+def named(engine):
+    by = "clang" if engine.startswith("clang_") else "gcc"
+    return f"{NAMES[engine.removeprefix('clang_')]}, {by}"
+
+
+ALL_BY_HAND = [e for unit in BY_HAND for e in both(unit)]
+COUNTED = ["pager", "with its arguments"] + [named(e) for e in ALL_BY_HAND] + [
+    "pager / " + named(e) for e in both("checked") + both("method")]
+
+
 def counted_row(name, what, size, call):
-    pager, method, cleared, checked = (inside(what, size, e, call) for e in ENGINES + ["checked"])
-    return [name, number(pager), number(with_arguments(what, size, call)), number(checked), number(method),
-            number(cleared), ratio(pager, method), ratio(pager, checked)]
-
-
-COUNTED = ["pager", "with its arguments", "C with the checks", "C, no checks", "cleared table", "pager / C",
-           "pager / C with the checks"]
+    pager = inside(what, size, "pager", call)
+    return ([name, number(pager), number(with_arguments(what, size, call))]
+            + [number(inside(what, size, e, call)) for e in ALL_BY_HAND]
+            + [ratio(pager, inside(what, size, e, call)) for e in both("checked") + both("method")])
 
 
 def table_a():
@@ -112,37 +102,45 @@ def table_a():
 
 def table_b():
     rows = [counted_row("touch, resident", "touch resident", 0, "touch"),
-            counted_row("look, resident", "look resident", 0, "look")]
+            counted_row("look, resident", "look resident", 0, "look"),
+            counted_row("translate, resident", "translate", 0, "translate")]
     for call in ("touch", "look"):
         for words in (1, 3, 5):
             rows.append(counted_row(f"{call}, absent, {words} index word{'s' * (words > 1)}", f"{call} absent", words, call))
+    for call in ("mark", "drop"):
+        for words in (1, 2, 3):
+            rows.append(counted_row(f"{call}, {words} index word{'s' * (words > 1)} changed", call, words, call))
     return table(["call"] + COUNTED, rows)
 
 
 def table_b_time():
     rows = []
+    engines = ["pager"] + ALL_BY_HAND
     for call in ("touch", "look", "translate"):
         for where in ("same", "spread"):
             case = clocked[call, 4096, 0, where]
             rows.append([f"{call}, resident", "one page" if where == "same" else "pages in turn"]
-                        + [f"{case[e] * 1000 / rate:.1f}" for e in ENGINES] + [ratio(case["pager"], case["method"])])
-    return table(["call", "which page", "pager, ns", "C, ns", "cleared table, ns", "pager / C"], rows)
+                        + [f"{case[e] * 1000 / rate:.1f}" for e in engines] + [ratio(case["pager"], case[e]) for e in both("checked")])
+    return table(["call", "which page", "pager, ns"] + [named(e) for e in ALL_BY_HAND]
+                 + ["pager / " + named(e) for e in both("checked")], rows)
 
 
 SIZES = [(1, "1 byte"), (16, "16 bytes"), (4096, "a page"), (65536, "64 KiB"), (1 << 20, "1 MiB")]
 
 
 def table_c():
-    row = counted_row("translate", "translate", 0, "translate")
-    rows = [row[:3] + row[4:6] + ["", row[6]]]
+    rows = []
+    engines = both("method") + both("cleared")
     for call in ("read", "write"):
         for n, name in SIZES:
-            pager, method, cleared = (inside(call, n, e, call) for e in ENGINES)
+            pager = inside(call, n, "pager", call)
             # callgrind counts every byte of a `rep movsb`, which is what memcpy becomes for large spans
             plain = counts[call, n, "plain"]["plain_copy"] if n <= 4096 else None
-            rows.append([f"{call} {name}", number(pager), number(with_arguments(call, n, call)), number(method),
-                         number(cleared), number(plain), ratio(pager, method)])
-    return table(["call", "pager", "with its arguments", "C, no checks", "cleared table", "memcpy", "pager / C"], rows)
+            rows.append([f"{call} {name}", number(pager), number(with_arguments(call, n, call))]
+                        + [number(inside(call, n, e, call)) for e in engines] + [number(plain)]
+                        + [ratio(pager, inside(call, n, e, call)) for e in both("method")])
+    return table(["call", "pager", "with its arguments"] + [named(e) for e in engines] + ["memcpy"]
+                 + ["pager / " + named(e) for e in both("method")], rows)
 
 
 def table_c_time():
@@ -190,62 +188,63 @@ def table_d():
     return table(["start", "time, µs", "/ memset", "instructions"], rows)
 
 
-KINDS = ["allocation", "release", "read", "write"]
-FUNCTIONS = {"allocation": "allocation", "release": "release", "read": "read_word", "write": "write_word"}
-
-
-def mean_instructions(kind, engine):
-    for (what, _, who), functions in kinds_counted.items():
-        if who == engine and what.startswith("workload "):
-            each = dict(zip(KINDS, map(int, what.split()[1:])))
-            return functions[FUNCTIONS[kind]] / each[kind]
-    return None
+KINDS, FUNCTIONS = aims.KINDS, aims.FUNCTIONS
 
 
 def table_e():
     rows = []
-    for kind in KINDS:
-        for e in ENGINES:
-            spent = [t for _, t in actions[kind, e]]
-            rows.append([kind if e == "pager" else "", NAMES[e], number(len(spent)) if e == "pager" else "",
-                         f"{sum(spent) / 1e6:.1f}", f"{sum(spent) / len(spent):.0f}", f"{max(spent):,.0f}",
-                         number(mean_instructions(kind, e)),
-                         number(kinds_counted["slowest " + kind, 0, e][FUNCTIONS[kind]])])
+    for kind in KINDS + ["all"]:
+        kinds = KINDS if kind == "all" else [kind]
+        for e in ENGINES[:2] + ["clang_method"] + ENGINES[2:]:
+            counted = [aims.actions(kinds_counted, e)[k] for k in kinds]
+            mean = sum(total for _, total in counted) / sum(many for many, _ in counted)
+            row = [kind if e == "pager" else "", e if e == "pager" else named(e)]
+            spent = [t for k in kinds for _, t in actions[k, e]]
+            if spent:
+                slowest = "" if kind == "all" else number(kinds_counted["slowest " + kind, 0, e][FUNCTIONS[kind]])
+                row += [number(len(spent)) if e == "pager" else "", f"{sum(spent) / 1e6:.1f}", f"{sum(spent) / len(spent):.0f}",
+                        f"{max(spent):,.0f}", number(mean), slowest]
+            else:
+                row += ["", "", "", "", number(mean), ""]  # clang's is counted only
+            rows.append(row)
     return table(["action", "engine", "actions", "all, ms", "mean, ns", "largest, ns", "mean instructions",
                   "instructions of the slowest"], rows)
 
 
+def met(yes):
+    return "met" if yes else "missed"
+
+
+def aim_rows(aim, ratio_to):
+    """A row for each engine that an aim names."""
+    rows = []
+    for engine, most in aim.most.items():
+        is_met = ratio_to(engine) * 100 <= most + 1e-9
+        why = "; the loop over bits, until W-204" if aim.name in aims.WAITS and not is_met else ""
+        rows.append([aim.name, f"at most {most / 100:.2f} x {named(engine)}", f"{math.ceil(ratio_to(engine) * 100 - 1e-9) / 100:.2f}", met(is_met) + why])
+    return rows
+
+
 def table_aims():
     release = [inside("release", n, "pager", "release") for n in (1, 16, 256, 4096, 65536)]
-    method = inside("release", 1, "method", "release")
-    touch = inside("touch resident", 0, "pager", "touch"), inside("touch resident", 0, "method", "touch")
     copies = {where: max(clocked[call, 4096, n, where]["pager"] / clocked[call, 4096, n, where]["plain"]
                          for call in ("read", "write") for n in (4096, 65536, 1 << 20)) for where in ("same", "spread")}
     large = max(clocked[call, 4096, n, where]["pager"] / clocked[call, 4096, n, where]["plain"]
                 for call in ("read", "write") for n in (65536, 1 << 20) for where in ("same", "spread"))
     case = start_case()
     start = case["pager"] / case["plain"]
-
-    def met(yes):
-        return "met" if yes else "missed"
-    checked = {call: inside(what, size, "checked", call) for what, size, call in
-               (("release", 1, "release"), ("touch resident", 0, "touch"))}
-    rows = [
-        ["release constant from 1 to 65,536 pages", f"{number(min(release))} to {number(max(release))} instructions",
-         met(min(release) == max(release))],
-        ["release within 2 x the instructions of C without checks", ratio(release[0], method),
-         met(release[0] <= 2 * method)],
-        ["the same against C with the checks", ratio(release[0], checked["release"]), ""],
-        ["resident touch within 2 x the instructions of C without checks", ratio(*touch), met(touch[0] <= 2 * touch[1])],
-        ["the same against C with the checks", ratio(touch[0], checked["touch"]), ""],
-        ["copies of a page and more within 1.2 x memcpy, spans in turn", f"at most {copies['spread']:.2f}",
-         met(copies["spread"] <= 1.2)],
-        ["the same, one span again and again (a page then lies in the first cache)", f"at most {copies['same']:.2f}",
-         met(copies["same"] <= 1.2)],
-        ["copies of 64 KiB and more, both ways", f"at most {large:.2f}", met(large <= 1.2)],
-        ["start within 1.2 x memset", f"{start:.2f}", met(start <= 1.2)],
-    ]
-    return table(["aim", "measured", ""], rows)
+    rows = [["release", "the same from 1 to 65,536 pages", f"{number(min(release))} to {number(max(release))} instructions",
+             met(min(release) == max(release))]]
+    for aim in aims.AIMS:
+        rows += aim_rows(aim, lambda engine: aims.ratio(counts, aim, engine))
+    rows += aim_rows(aims.WORKLOAD, lambda engine: aims.workload_ratio(kinds_counted, engine))
+    # here the session program's row, once bench/run counts it: see aims.py
+    rows += [["time of a copy of a page and more, spans in turn", "at most 1.20 x memcpy", f"{copies['spread']:.2f}", met(copies["spread"] <= 1.2)],
+             ["the same, one span again and again (a page then lies in the first cache)", "at most 1.20 x memcpy", f"{copies['same']:.2f}",
+              met(copies["same"] <= 1.2)],
+             ["time of a copy of 64 KiB and more, both ways", "at most 1.20 x memcpy", f"{large:.2f}", met(large <= 1.2)],
+             ["time of a start", "at most 1.20 x memset", f"{start:.2f}", met(start <= 1.2)]]
+    return table(["what", "aim", "measured", ""], rows)
 
 
 def processor():
@@ -389,7 +388,7 @@ figure("release", "release-by-size")
 figure_release()
 figure_copies()
 
-tables = {"machine": f"Processor: {processor()}. Compiler of the C: {sys.argv[4]}, `-O3`.",
+tables = {"machine": f"Processor: {processor()}. Compilers of the C: {sys.argv[4]}, `-O3`.",
           "aims": table_aims(), "a": table_a(), "b": table_b(), "b-time": table_b_time(), "c": table_c(),
           "c-time": table_c_time(), "c-pages": table_c_pages(), "d": table_d(), "e": table_e()}
 with open(doc) as f:

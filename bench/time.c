@@ -11,6 +11,7 @@
 #include <stdlib.h>
 #include <string.h>
 
+/* The spans' and the starts' last engine is a copy or a clearing alone; the calls on a page are made by all that are written. */
 enum { PLACES = 262144, FRAMES = 65536, SPREAD = 8 << 20, PLAIN = ENGINES };
 
 static uint8_t *buffer, *plain_ram, *plain_tables;
@@ -41,7 +42,7 @@ static void none_differs(uint32_t differs, const char *what)
 
 enum { ROUNDS = 4000 };
 
-static uint64_t ticks[ENGINES + 1][ROUNDS];
+static uint64_t ticks[ALL][ROUNDS];
 
 static int by_size(const void *a, const void *b)
 {
@@ -87,7 +88,7 @@ static void calls_on(int call, int spread)
     enum { CALLS = 64 };
     static const char *const names[] = {"touch", "look", "translate"};
     for (uint32_t r = 0; r < ROUNDS; r++)
-        for (int i = 0; i < ENGINES; i++) {
+        for (int i = 0; i < ALL; i++) {
             uint32_t page = spread ? r * CALLS : 0, differs = 0;
             uint64_t from = clock_begin();
             for (int k = 0; k < CALLS; k++) {
@@ -102,8 +103,8 @@ static void calls_on(int call, int spread)
             ticks[i][r] = clock_end() - from - empty;
             none_differs(differs, names[call]);
         }
-    for (int i = 0; i < ENGINES; i++)
-        printf("%s 4096 0 %s %s %.2f\n", names[call], spread ? "spread" : "same", name_of(i),
+    for (int i = 0; i < ALL; i++)
+        printf("%s 4096 0 %s %s %.2f\n", names[call], spread ? "spread" : "same", e[i].name,
                typical(i, ROUNDS, spread) / CALLS);
 }
 

@@ -5,6 +5,7 @@
  *     workload check        every answer of the engines compared
  *     workload time FILE    every action timed, the least of many runs; one line an action: engine kind pages ticks
  *     workload count FILE   under callgrind: instructions by kind, and of the slowest action of each kind (from FILE)
+ *     workload some NUMBER  under callgrind: instructions by kind of so many actions, the first ones
  */
 #include "clock.h"
 #include "driver.h"
@@ -105,10 +106,10 @@ static int draw_access(action *a, uint8_t kind)
 }
 
 /* An action that can't be had (nothing to release, no room) becomes its opposite. */
-static void draw_all(void)
+static void draw_all(size_t end)
 {
     length[0] = PLACES;
-    for (size_t i = 0; i < ACTIONS; i++) {
+    for (size_t i = 0; i < end; i++) {
         uint32_t which = draw(10);
         if (which == 0 || (which > 1 && living == 0)) {
             if (!draw_allocation(&actions[i]))
@@ -269,7 +270,36 @@ static int timed(const engine e[ENGINES], const char *name)
     return fclose(f);
 }
 
-static int counted(const engine e[ENGINES], const char *name)
+/* The instructions of the actions before `end`, by kind: each kind is a function of its own. */
+static size_t sum(const engine *e, size_t end)
+{
+    size_t each[KINDS] = {0}, refused = 0, n;
+    char line[128];
+    begin(e);
+    for (n = 0; n < WARM; n++)
+        refused += corwystal_refused(act(e, &actions[n]));
+    CALLGRIND_TOGGLE_COLLECT;
+    for (n = WARM; n < end; n++)
+        refused += corwystal_refused(act(e, &actions[n]));
+    CALLGRIND_TOGGLE_COLLECT;
+    for (n = WARM; n < end; n++)
+        each[actions[n].kind]++;
+    snprintf(line, sizeof line, "workload %zu %zu %zu %zu/0/%s/1", each[0], each[1], each[2], each[3], e->name);
+    CALLGRIND_DUMP_STATS_AT(line);
+    return refused;
+}
+
+/* The pager and the method by both compilers. */
+static int some(const engine e[ALL], size_t end)
+{
+    size_t refused = sum(&e[PAGER], end);
+    if (sum(&e[METHOD], end) == refused && sum(&e[CLANG_METHOD], end) == refused)
+        return 0;
+    fputs("workload: an engine refused other actions than the pager; `workload check` says where they differ\n", stderr);
+    return 1;
+}
+
+static int counted(const engine e[ALL], const char *name)
 {
     size_t slowest[ENGINES][KINDS] = {{0}}, refused[ENGINES] = {0}, n;
     char line[128];
@@ -282,18 +312,7 @@ static int counted(const engine e[ENGINES], const char *name)
             slowest[i][k] = n;
     fclose(f);
     for (i = 0; i < ENGINES; i++) {
-        size_t each[KINDS] = {0};
-        begin(&e[i]);
-        for (n = 0; n < WARM; n++)
-            refused[i] += corwystal_refused(act(&e[i], &actions[n]));
-        CALLGRIND_TOGGLE_COLLECT;
-        for (n = WARM; n < ACTIONS; n++)
-            refused[i] += corwystal_refused(act(&e[i], &actions[n]));
-        CALLGRIND_TOGGLE_COLLECT;
-        for (n = WARM; n < ACTIONS; n++)
-            each[actions[n].kind]++;
-        snprintf(line, sizeof line, "workload %zu %zu %zu %zu/0/%s/1", each[0], each[1], each[2], each[3], e[i].name);
-        CALLGRIND_DUMP_STATS_AT(line);
+        refused[i] = sum(&e[i], ACTIONS);
         begin(&e[i]);
         for (n = 0; n < ACTIONS; n++) {
             k = actions[n].kind;
@@ -309,6 +328,7 @@ static int counted(const engine e[ENGINES], const char *name)
         }
     }
     same_refusals(e, refused);
+    sum(&e[CLANG_METHOD], ACTIONS);
     return 0;
 }
 
@@ -316,7 +336,12 @@ int main(int argc, char **argv)
 {
     engine e[ALL];
     int failed = 2;
-    draw_all();
+    size_t end = argc == 3 && strcmp(argv[1], "some") == 0 ? WARM + strtoul(argv[2], NULL, 10) : ACTIONS;
+    if (end <= WARM || end > ACTIONS) {
+        fprintf(stderr, "workload: some NUMBER: from 1 to %d\n", ACTIONS - WARM);
+        return 2;
+    }
+    draw_all(end);
     engines_make(e, PLACES, FRAMES, (size_t)FRAMES * PAGE);
     if (argc == 2 && strcmp(argv[1], "check") == 0)
         failed = check(e);
@@ -324,8 +349,10 @@ int main(int argc, char **argv)
         failed = timed(e, argv[2]);
     else if (argc == 3 && strcmp(argv[1], "count") == 0)
         failed = counted(e, argv[2]);
+    else if (argc == 3 && strcmp(argv[1], "some") == 0)
+        failed = some(e, end);
     else
-        fputs("usage: workload check | time FILE | count FILE\n", stderr);
+        fputs("usage: workload check | time FILE | count FILE | some NUMBER\n", stderr);
     engines_free(e);
     return failed;
 }
