@@ -11,6 +11,11 @@ a kernel has no dynamic linker, no C library but memmove and memset, and may cal
   - no use of memory below the stack pointer: every path through the function is followed, with the stack pointer and each register that holds an
     address of the stack; what can't be followed (a computed jump, an aligned or unknown stack pointer) is a fault too. An address of the stack that
     goes through memory or to a callee is not followed there: it is looked at when it is made, and must then be at the stack pointer or above it;
+of each exported one, with all that it calls:
+  - no call of memmove or memset but those of MAY_CALL, so that no head goes through memory by one; and those of memmove copy the caller's bytes only.
+    A copy of a record, such as a head, differs from one of bytes in one of two ways: it goes to or from the function's own stack, or its length is a
+    constant. Both are followed to the call, the constant through registers; either on any path is a fault;
+  - no loop, of those of NO_LOOPS: a jump back is one if control can come from its target to it again (others lead to a common end);
 and of the library: no writable data, no thread's or constructors' sections, no relocation but R_X86_64_PLT32, no undefined name but memmove and memset.
 The bytes of stack of a function are those below its caller's stack pointer at the call: its return address, its frame and the deepest of its callees.
 memmove and memset are counted with their return address alone. The instructions are those of the longest path, callees included.
@@ -20,6 +25,11 @@ import subprocess
 import sys
 
 KERNEL_HAS = {"memmove", "memset"}
+# What an exported function may call of these, itself or by what it calls. All others: nothing.
+MAY_CALL = {"corwystal_start": {"memset"}, "corwystal_read": {"memmove"}, "corwystal_write": {"memmove"}}
+# Exported functions without any loop: constant time, whatever the memory. Touch, look, translate and mark join them when the find has no loop over
+# bits any more (request W-204).
+NO_LOOPS = {"corwystal_release", "corwystal_free_count", "corwystal_drop", "corwystal_sizes"}
 BIT_LOOPS = {"index::find_checked": 64}  # functions whose loops all go over the bits of one word, and how often at most
 WIDTHS = {
     "rax": "eax ax al ah", "rbx": "ebx bx bl bh", "rcx": "ecx cx cl ch", "rdx": "edx dx dl dh",
@@ -84,11 +94,12 @@ def functions_of(library):
 
 class Walk:
     """One function, followed along every path. State: for the stack pointer and each register its offset from the stack pointer at entry, if
-    it holds an address of the stack."""
+    it holds an address of the stack; and under "#" and its name the constant that a register holds, LOST for one of several or one on some paths."""
 
     def __init__(self, function, faults):
         self.f, self.faults = function, faults
         self.calls, self.deepest, self.seen, self.next = [], 0, {}, {}
+        self.records = {}  # address of a call of memmove or memset: why it copies no bytes of the caller's
 
     def fault(self, at, what):
         mnemonic, words = self.f.code[at]
@@ -153,8 +164,14 @@ class Walk:
         if not jump:
             self.deepest = max(self.deepest, 8 - state["rsp"])
         self.calls.append((target, (0 if jump else 8) - state["rsp"]))
+        if target in KERNEL_HAS:
+            if any(state.get(r) is not None for r in ("rdi", "rsi")):
+                self.records[at] = "to or from the stack"
+            elif "#rdx" in state:
+                self.records[at] = "with a length that is a constant"
         for r in CALL_CHANGES:
             state.pop(r, None)
+            state.pop("#" + r, None)
 
     def step(self, at, state):
         """The instruction's effect on the state; where control goes from it."""
@@ -202,9 +219,23 @@ class Walk:
                 self.fault(at, "an operand that can't be followed")
         for register in FIXED.get(plain, ()):
             state.pop(register, None)
+            state.pop("#" + register, None)
         if words and words[-1].startswith("%") and plain not in KEEPS:
-            self.set(at, words[-1], self.result(plain, words, place, state), state)
+            self.set(at, words[-1], self.result(plain, words, place, state), state, self.constant(plain, words, state))
         return [after]
+
+    def constant(self, plain, words, state):
+        """The constant that a register holds after an instruction that changes it: a number, LOST or None."""
+        of = lambda word: int(word[1:], 0) if word[0] == "$" else state.get("#" + WHOLE.get(word[1:], "")) if word[0] == "%" else None
+        if plain in ("mov", "movabs") or plain in MOVES:
+            return of(words[0])
+        if plain.startswith("cmov"):
+            return LOST if of(words[0]) is not None or of(words[-1]) is not None else None
+        if plain in ONE and of(words[-1]) is not None:
+            return LOST
+        if plain in TWO and plain != "lea" and of(words[0]) is not None and of(words[-1]) is not None:
+            return LOST
+        return None
 
     def result(self, plain, words, place, state):
         """What a register holds after an instruction that changes it: an offset, LOST or None."""
@@ -224,8 +255,11 @@ class Walk:
             return None
         return LOST if state.get(target) is not None or of(source) is not None else None
 
-    def set(self, at, word, value, state):
+    def set(self, at, word, value, state, constant=None):
         register = WHOLE.get(word[1:])
+        state.pop("#" + str(register), None)
+        if constant is not None:
+            state["#" + str(register)] = constant
         if register == "rsp":
             if not isinstance(value, int) or value > 0:
                 self.fault(at, "a stack pointer that can't be followed")
@@ -302,6 +336,39 @@ def loops_of(walk):
     return parts
 
 
+def below(name, walks, by_target):
+    """A function and all that it calls, each once."""
+    found, todo = [], [name]
+    while todo:
+        f = todo.pop()
+        if f not in found:
+            found.append(f)
+            todo += [by_target[target] for target, _ in walks[f].calls if target in by_target]
+    return found
+
+
+def copies(name, walks, by_target, faults):
+    """The calls of memmove and memset that an exported function may not make."""
+    for f in below(name, walks, by_target):
+        walk = walks[f]
+        for at, target in walk.f.reaches.items():
+            if target not in by_target and target not in MAY_CALL.get(name, ()):
+                faults.add(f"{name}: a call of {target}, at {f}+{at:#x}")
+            elif target == "memmove" and at in walk.records:
+                faults.add(f"{name}: a copy {walk.records[at]}, so of no caller's bytes, at {f}+{at:#x}")
+
+
+def loops(name, walks, by_target, faults):
+    """The loops of an exported function that is to have none."""
+    for f in below(name, walks, by_target):
+        walk = walks[f]
+        for part in loops_of(walk):
+            for at in part:
+                for to in walk.next[at]:
+                    if to <= at and to in part:
+                        faults.add(f"{name}: a loop, by the jump back to {to:#x} at {f}+{at:#x}")
+
+
 def longest_of(name, walks, by_target):
     """The instructions of the longest path, or None if there is a loop that isn't over a word's bits."""
     walk = walks[name]
@@ -342,6 +409,11 @@ def main():
     exported = [line.split()[2] for line in run("nm", "-g", "--defined-only", library).splitlines() if len(line.split()) == 3]
     if not exported:
         faults.add("no exported function")
+    for name in exported:
+        if name in walks:
+            copies(name, walks, by_target, faults)
+            if name in NO_LOOPS:
+                loops(name, walks, by_target, faults)
     try:
         needs = {name: stack_of(name, walks, by_target) for name in exported if name in walks}
     except RecursionError as loop:

@@ -1,6 +1,8 @@
 #!/usr/bin/env bash
-# Holds the library's object code to what a kernel can have (inspect.py), and docs/KERNEL.md to the stack and the instructions of each call. The
-# inspection itself is tried on the library as `rt staticlib` alone builds it, and on small pieces with one fault each.
+# Holds the library's object code to what a kernel can have (inspect.py), and docs/KERNEL.md to the stack and the instructions of each call, read off the
+# code and measured (met.c). The inspection itself is tried on the library as `rt staticlib` alone builds it, and on small pieces with one fault each.
+#     tests/object/run.sh          for the gate, some twenty seconds; needs gcc, valgrind and python3
+#     tests/object/run.sh write    writes the table of docs/KERNEL.md anew, and holds all else
 set -euo pipefail
 here=$(cd "$(dirname "${BASH_SOURCE[0]}")" && pwd)
 cd "$here/../.."
@@ -30,10 +32,27 @@ wrong() {
     finds "$made/$1.a" "$2"
 }
 
-# A function f of so many lines.
+# One piece in which nothing is wrong: name.
+right() {
+    cat > "$made/$1.s"
+    gcc -c -o "$made/$1.o" "$made/$1.s"
+    ar rcs "$made/$1.right" "$made/$1.o"
+    inspect "$made/$1.right" || fail "found, though nothing is wrong with $1: $(head -n 3 "$made/told")"
+}
+
+# A function of so many lines: name, lines.
+named() {
+    printf '.globl %s\n.text\n%s:\n' "$1" "$1"
+    printf '%s\n' "${@:2}"
+}
+
 f() {
-    printf '.globl f\n.text\nf:\n'
-    printf '%s\n' "$@"
+    named f "$@"
+}
+
+# A call that leaves everything to one function below it, of so many lines: name, lines.
+by_callee() {
+    named "$1" 'sub $8, %rsp' 'call below@PLT' 'add $8, %rsp' 'ret' '.section .text.below, "ax"' 'below:' "${@:2}"
 }
 
 bindings/library
@@ -41,13 +60,27 @@ library=target/bindings/libcorwystal.a
 inspect "$library" || fail "$library can't be linked into a kernel: $(cat "$made/told")"
 mv "$made/told" "$made/calls"
 
-# docs/KERNEL.md has a row for each call: its name, its bytes of stack, its instructions at most.
-grouped() { sed -E ':more; s/^([0-9]+)([0-9]{3})(,|$)/\1,\2\3/; t more' <<< "$1"; }
-while read -r name stack most; do
-    echo "| ${name#corwystal_} | $(grouped "$stack") | $(grouped "$most") |"
-done < "$made/calls" | sort > "$made/rows"
-awk -F '|' '/<!-- calls -->/, /<!-- end -->/ { if ($2 ~ /^ [a-z_]+ $/) print "|" $2 "|" $3 "|" $4 "|" }' docs/KERNEL.md | sort > "$made/kept"
-diff "$made/rows" "$made/kept" > "$made/differences" || fail "docs/KERNEL.md tells other numbers (< the library, > the page): $(cat "$made/differences")"
+# Each call in many situations: its stack by painting, its instructions by callgrind; docs/KERNEL.md has the most of both, beside what the code has.
+mkdir "$made/counts"
+mapfile -t wraps < <(sed 's/ .*//; s/^/-Wl,--wrap=/' "$made/calls")
+gcc -std=gnu11 -O2 -Wall -Wextra -DPAINT -o "$made/painted" "$here/met.c" "$here/paint.S" "${wraps[@]}" "$library"
+gcc -std=gnu11 -O2 -Wall -Wextra -o "$made/counted" "$here/met.c" "$here/paint.S" "$library"
+"$made/painted" stack > "$made/stack" || fail "the stack of the calls could not be measured: see above"
+valgrind --tool=callgrind --collect-atstart=no --compress-strings=no --compress-pos=no --callgrind-out-file="$made/counts/dump" \
+    "$made/counted" count > "$made/log" 2>&1 || fail "the instructions of the calls could not be counted: $(cat "$made/log")"
+python3 "$here/table.py" "$made/calls" "$made/stack" "$made/counts" docs/KERNEL.md "$@"
+
+# The table's test finds a call that uses or runs more than was read off, and a number that is no longer so: the calls, the page, what is found.
+outdated() {
+    python3 "$here/table.py" "$1" "$made/stack" "$made/counts" "$2" > "$made/told" 2>&1 && fail "table.py doesn't find: $3"
+    grep -qF -- "$3" "$made/told" || fail "table.py finds something else than $3: $(head -n 3 "$made/told")"
+}
+sed -E 's/^(corwystal_write) [0-9]+/\1 64/' "$made/calls" > "$made/shallow"
+sed -E 's/^(corwystal_release [0-9]+) [0-9]+/\1 9/' "$made/calls" > "$made/short"
+sed -E '/^\| touch /s/[0-9]+ for a resident page/9 for a resident page/' docs/KERNEL.md > "$made/old.md"
+outdated "$made/shallow" docs/KERNEL.md 'write, a byte: '
+outdated "$made/short" docs/KERNEL.md 'release, three pages: '
+outdated "$made/calls" "$made/old.md" 'tells other numbers than the library'
 
 # A copy of bytes is a call of memmove, without a frame for the page that the source names.
 for call in read write; do
@@ -87,6 +120,25 @@ f 'jmp abort@PLT' | wrong other_name 'undefined name abort'
 f 'mov state(%rip), %eax' 'ret' '.data' 'state: .long 1' | wrong writable_data 'section .data: writable'
 f 'mov table(%rip), %eax' 'ret' '.section .rodata' 'table: .long 1' | wrong read_only_data 'a relocation R_X86_64_PC32'
 f 'ret' '.section .init_array, "aw"' '.quad 0' | wrong constructor 'section .init_array'
+
+named corwystal_release 'jmp memmove@PLT' | wrong copies 'corwystal_release: a call of memmove'
+named corwystal_look 'jmp memset@PLT' | wrong clears 'corwystal_look: a call of memset'
+by_callee corwystal_touch 'jmp memmove@PLT' | wrong copies_below 'corwystal_touch: a call of memmove, at below'
+named corwystal_read 'jmp memset@PLT' | wrong read_clears 'corwystal_read: a call of memset'
+named corwystal_write 'jmp memcpy@PLT' | wrong other_copy 'corwystal_write: a call of memcpy'
+named corwystal_read 'sub $40, %rsp' 'mov %rsp, %rdi' 'call memmove@PLT' 'add $40, %rsp' 'ret' | wrong copy_to_the_stack 'a copy to or from the stack'
+named corwystal_write 'sub $40, %rsp' 'lea 8(%rsp), %rax' 'mov %rax, %rsi' 'call memmove@PLT' 'add $40, %rsp' 'ret' \
+    | wrong copy_from_the_stack 'a copy to or from the stack'
+by_callee corwystal_write 'mov $28, %edx' 'jmp memmove@PLT' | wrong copy_of_a_head 'a copy with a length that is a constant'
+named corwystal_write 'mov $27, %eax' 'inc %eax' 'mov %rax, %rdx' 'jmp memmove@PLT' | wrong constant_by_registers 'a copy with a length that is a constant'
+named corwystal_read 'test %edi, %edi' 'je 1f' 'mov $28, %edx' '1: jmp memmove@PLT' | wrong constant_on_one_path 'a copy with a length that is a constant'
+named corwystal_release '1: dec %edi' 'jne 1b' 'ret' | wrong loop 'corwystal_release: a loop, by the jump back to 0x0'
+named corwystal_free_count 'jmp 2f' '1: dec %edi' '2: test %edi, %edi' 'jne 1b' 'ret' | wrong loop_from_its_middle 'corwystal_free_count: a loop'
+named corwystal_drop '1: jmp 1b' | wrong endless 'corwystal_drop: a loop'
+by_callee corwystal_release '1: shr %rdi' 'jne 1b' 'ret' | wrong loop_below 'corwystal_release: a loop, by the jump back to 0x0 at below'
+named corwystal_release 'jmp 2f' '1: ret' '2: test %edi, %edi' 'je 1b' 'mov $28, %edx' 'jmp 1b' | right jumps_back
+named corwystal_read 'mov $28, %edx' 'mov %r9, %rdx' 'jmp memmove@PLT' | right copies_bytes
+named corwystal_touch '1: dec %edi' 'jne 1b' 'ret' | right may_loop
 
 instructions=$(objdump -d "$library" | grep -cE '^ +[0-9a-f]+:.*	[a-z]')
 echo "object: $(nm "$library" | grep -c ' [tT] ') functions, $instructions instructions: general registers only, nothing below the stack pointer;" \
