@@ -6,6 +6,10 @@
 set -euo pipefail
 here=$(cd "$(dirname "${BASH_SOURCE[0]}")" && pwd)
 cd "$here/../.."
+if [ $# -gt 0 ] && [ "$*" != write ]; then
+    echo "usage: tests/object/run.sh [write]" >&2
+    exit 2
+fi
 made=$(mktemp -d)
 trap 'rm -rf "$made"' EXIT
 
