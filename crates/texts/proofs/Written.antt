@@ -16,7 +16,7 @@ use Rattle.texts.specs.Laws.{wrote-more}
 -- ---- writing
 
 -- one store
-wrote-one : (at c : ℕ) (out : List ℕ) → at < length out → Wrote at out (c ∷ []) (at + 1) (set out at c)
+pub wrote-one : (at c : ℕ) (out : List ℕ) → at < length out → Wrote at out (c ∷ []) (at + 1) (set out at c)
 wrote-one at c out h = record { long = length-set out at c; end-is = refl; out-is = rw add-one (set-split out at c h) }
 
 -- one store more

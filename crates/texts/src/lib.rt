@@ -4,7 +4,7 @@ ghost use mathlib.Core.Path.{_≡_};
 ghost use mathlib.Core.List.{_++_};
 ghost use Prim.Native.Nat.{_+_, _*_, _≤_};
 ghost use lib.ListN.{length};
-ghost use Rattle.io.specs.Digits.{glyph};
+ghost use Rattle.io.specs.Digits.{glyph, digits};
 ghost use Rattle.texts.specs.Text.{decimal, hexText, bytesText, numbersText, blank};
 ghost use Rattle.texts.specs.Text.{frameWord, oldWord, newWord, residentWord, noWords, bytesWord, regionsWord, noWord};
 ghost use Rattle.texts.specs.Writing.{Wrote};
@@ -23,8 +23,43 @@ pub fn put(out: &mut [u8], at: usize, word: &[u8]) -> usize
     at + n
 }
 
-// A number in decimal, at most 20 digits.
-fn put_number(out: &mut [u8], at: usize, n: u64) -> usize
+// A hex digit of a number below 16.
+fn glyph_of(d: u8) -> u8
+    requires { ⌜ d ≤ 15 ⌝ }
+    ensures { λ r. ⌜ r ≡ glyph d ⌝ }
+{
+    if d < 10 { 48 + d } else { 87 + d }
+}
+
+// The last decimal digit of a number.
+fn put_digit(out: &mut [u8], at: usize, n: u64) -> usize
+    requires { ⌜ at + 1 ≤ length (now out) ⌝ }
+    ensures { λ r. ⌜ Wrote at (now (out .entry)) (digits 10 1 n) r (now (out .exit)) ⌝ }
+{
+    out[at] = glyph_of((n % 10) as u8);
+    at + 1
+}
+
+// The last two.
+fn put_two(out: &mut [u8], at: usize, n: u64) -> usize
+    requires { ⌜ at + 2 ≤ length (now out) ⌝ }
+    ensures { λ r. ⌜ Wrote at (now (out .entry)) (digits 10 2 n) r (now (out .exit)) ⌝ }
+{
+    let next = put_digit(out, at, n / 10);
+    put_digit(out, next, n)
+}
+
+// The last three.
+fn put_three(out: &mut [u8], at: usize, n: u64) -> usize
+    requires { ⌜ at + 3 ≤ length (now out) ⌝ }
+    ensures { λ r. ⌜ Wrote at (now (out .entry)) (digits 10 3 n) r (now (out .exit)) ⌝ }
+{
+    let next = put_two(out, at, n / 10);
+    put_digit(out, next, n)
+}
+
+// A number in decimal of any length, by way of an array of its digits.
+fn put_long(out: &mut [u8], at: usize, n: u64) -> usize
     requires { ⌜ at + 20 ≤ length (now out) ⌝ }
     ensures { λ r. ⌜ Wrote at (now (out .entry)) (decimal n) r (now (out .exit)) ⌝ }
     ensures { λ r. ⌜ r ≤ at + 20 ⌝ }
@@ -34,12 +69,22 @@ fn put_number(out: &mut [u8], at: usize, n: u64) -> usize
     put(out, at, &digits[..k])
 }
 
-// A hex digit of a number below 16.
-fn glyph_of(d: u8) -> u8
-    requires { ⌜ d ≤ 15 ⌝ }
-    ensures { λ r. ⌜ r ≡ glyph d ⌝ }
+// A number in decimal, at most 20 digits. Most have one to three, which go straight to their places.
+fn put_number(out: &mut [u8], at: usize, n: u64) -> usize
+    requires { ⌜ at + 20 ≤ length (now out) ⌝ }
+    ensures { λ r. ⌜ Wrote at (now (out .entry)) (decimal n) r (now (out .exit)) ⌝ }
+    ensures { λ r. ⌜ r ≤ at + 20 ⌝ }
 {
-    if d < 10 { 48 + d } else { 87 + d }
+    if n < 10 {
+        return put_digit(out, at, n);
+    }
+    if n < 100 {
+        return put_two(out, at, n);
+    }
+    if n < 1000 {
+        return put_three(out, at, n);
+    }
+    put_long(out, at, n)
 }
 
 // Bytes, two hex digits each.

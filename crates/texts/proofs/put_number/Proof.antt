@@ -1,26 +1,28 @@
--- The digits of io, put as a word.
-use native.Mathlib.Omega.{arith}
+-- As many digits as the number has.
 use borrow.Author.Needs.{needs}
-use Rattle.texts.proofs.Written.{decimal-is, few-digits}
+use native.Mathlib.Omega.{arith}
+use Rattle.texts.proofs.Written.{decimal-is}
 use Rattle.texts.proofs.put_number.Statement.{statement}
 use Rattle.texts.proofs.put_number.Tie as tie
 
-put-requires : tie.Need-put-requires
-put-requires c κs =
-    let d = c .before .before .decimal .ensures in
-    omega (arith, few-digits _ _ (c .before .before .before .before .before .fits .n .fits) (d .1 .0), d .0 .1)
-
 returns : tie.Need-returns
 returns c =
-    let d = c .before .before .before .before .before .decimal .ensures in
-    let w = c .before .before .put .ensures in (
-      rw (d .1 .1, decimal-is _ _ (d .1 .0)) at w,
-      omega
-          (arith, few-digits _ _ (c .before .before .before .before .before .before .before .before .fits .n .fits) (d .1 .0), d .0 .1, w .end-is),
-    )
+    let w = c .before .before .put-digit .ensures in
+    (rw (decimal-is (c .before .before .before .before .before .before .args .n) 1 (omega arith, omega arith, λ h. absurd (omega arith))) at w, omega (arith, w .end-is))
+
+returns-2 : tie.Need-returns-2
+returns-2 c =
+    let w = c .before .before .put-two .ensures in
+    (rw (decimal-is (c .before .before .before .before .before .before .before .args .n) 2 (omega arith, omega arith, λ _. omega arith)) at w, omega (arith, w .end-is))
+
+returns-3 : tie.Need-returns-3
+returns-3 c =
+    let w = c .before .before .put-three .ensures in
+    (rw (decimal-is (c .before .before .before .before .before .before .before .before .args .n) 3 (omega arith, omega arith, λ _. omega arith)) at w, omega (arith, w .end-is))
 
 pub put-number-spec : {M : Type 1} → statement M
 put-number-spec =
     tie.close
     (tie.spec
-    (λ c κs. search needs) (λ c. search needs) (λ c. search needs) put-requires (λ c. search needs) returns)
+    (λ c κs. search needs) (λ c. search needs) returns (λ c κs. search needs) (λ c. search needs) returns-2 (λ c κs. search needs)
+    (λ c. search needs) returns-3 (λ c κs. search needs) (λ c. search needs) (λ c. search needs))
