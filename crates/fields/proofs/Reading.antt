@@ -58,18 +58,17 @@ hex-range c h = go (isDigit c) (leb 97 c && leb c 102) (λ e. between 48 c 57 e)
 
 -- ---- hex
 
-module _ (line : List ℕ) (i : ℕ) (h : i < length line) where
-  pub hex-step : isHex (getD line i 0) ≡ true → allHex (drop i line) ≡ allHex (drop (i + 1) line)
-  unfolding allHex
-  hex-step e = rw (here line i h, e)
-
-  pub hex-not : isHex (getD line i 0) ≡ false → allHex (drop i line) ≡ false
-  unfolding allHex
-  hex-not e = rw (here line i h, e)
-
-pub hex-end : (line : List ℕ) (i : ℕ) → length line ≤ i → allHex (drop i line) ≡ true
+-- one byte more, and no more, after some that were tested
+pub hex-next : (all : Bool) (line : List ℕ) (i : ℕ) → i < length line
+    → all && allHex (drop i line) ≡ (all && isHex (getD line i 0)) && allHex (drop (i + 1) line)
 unfolding allHex
-hex-end line i h = rw (over line i h)
+hex-next true line i h = rw (here line i h)
+hex-next false line i h = refl
+
+pub hex-end : (all : Bool) (line : List ℕ) (i : ℕ) → length line ≤ i → all && allHex (drop i line) ≡ all
+unfolding allHex
+hex-end true line i h = rw (over line i h)
+hex-end false line i h = refl
 
 -- bytes in hex after a blank, of a line that does not end here
 pub hex-after : (line : List ℕ) (at : ℕ) → at < length line

@@ -90,19 +90,18 @@ fn is_hex(c: u8) -> bool
     is_digit(c) || (97 <= c && c <= 102)
 }
 
-// Whether every byte from a place on is a hex digit.
+// Whether every byte from a place on is a hex digit. No byte ends the loop early, so that several are tested at a time.
 fn all_hex(line: &[u8], from: usize) -> bool
     requires { ⌜ from ≤ length (now line) ⌝ }
     ensures { λ r. ⌜ r ≡ allHex (drop from (now (line .entry))) ⌝ }
 {
+    let mut all = true;
     let mut i = from;
     while i < line.len() {
-        if !is_hex(line[i]) {
-            return false;
-        }
+        all = all & is_hex(line[i]);
         i += 1;
     }
-    true
+    all
 }
 
 // How many bytes the rest of a line has in hex, after a blank; none if the line ends here.
