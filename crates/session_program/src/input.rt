@@ -1,5 +1,5 @@
 // Lines from standard input.
-ghost use Prim.Native.Nat.{_<_, _≤_};
+ghost use Prim.Native.Nat.{_+_, _<_, _≤_};
 ghost use lib.ListN.{length};
 
 // Reads after the first `kept` bytes; answers how many there are then.
@@ -28,12 +28,67 @@ fn least(a: usize, b: usize) -> usize
     b
 }
 
+fn wide(b: u8) -> u64 {
+    b as u64
+}
+
+// Eight bytes as one word, the first of them the lowest.
+fn word_at(input: &[u8], i: usize) -> u64
+    requires { ⌜ i + 8 ≤ length (now input) ⌝ }
+{
+    wide(input[i])
+        | wide(input[i + 1]) << 8
+        | wide(input[i + 2]) << 16
+        | wide(input[i + 3]) << 24
+        | wide(input[i + 4]) << 32
+        | wide(input[i + 5]) << 40
+        | wide(input[i + 6]) << 48
+        | wide(input[i + 7]) << 56
+}
+
+// Not 0 if a byte of the word is a line feed; the lowest bit that is set is then the top bit of the first that is one.
+fn feeds_in(word: u64) -> u64 {
+    let x = word ^ 0x0a0a_0a0a_0a0a_0a0a;
+    std::num::wrapping_sub_u64(x, 0x0101_0101_0101_0101) & !x & 0x8080_8080_8080_8080
+}
+
+// The byte that has the lowest bit that is set.
+fn lowest_byte(word: u64) -> usize
+    ensures { λ r. ⌜ r ≤ 8 ⌝ }
+{
+    u64::trailing_zeros(word) as usize / 8
+}
+
+// Where the last whole word before `stop` begins, and one more.
+fn words_end(stop: usize) -> usize
+    ensures { λ r. ⌜ (0 < r → r + 7 ≤ stop) ⌝ }
+{
+    if stop < 8 { 0 } else { stop - 7 }
+}
+
+// Where the words without a line feed end, from `from` on: at the one that has it, or where fewer bytes than a word are left.
+fn pass_words(input: &[u8], from: usize, stop: usize) -> usize
+    requires { ⌜ stop ≤ length (now input) ⌝ }
+    ensures { λ r. ⌜ from ≤ r ⌝ }
+{
+    let end = words_end(stop);
+    let mut i = from;
+    while i < end {
+        let feeds = feeds_in(word_at(input, i));
+        if feeds != 0 {
+            return i + lowest_byte(feeds);
+        }
+        i += 8;
+    }
+    i
+}
+
 // Where the line that begins at `from` ends: at its line feed, or at n.
 fn line_end(input: &[u8], from: usize, n: usize) -> usize
     ensures { λ r. ⌜ (from ≤ n → from ≤ r) ⌝ }
 {
     let stop = least(n, input.len());
-    let mut i = from;
+    let mut i = pass_words(input, from, stop);
     while i < stop {
         if input[i] == 10 {
             return i;

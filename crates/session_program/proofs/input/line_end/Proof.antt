@@ -13,6 +13,9 @@ abbrev μ-loop : tie.MeasureT-loop
 least-requires : tie.Need-least-requires Inv-loop μ-loop
 least-requires c κs = omega arith
 
+pass-words-requires : tie.Need-pass-words-requires Inv-loop μ-loop
+pass-words-requires c κs = omega arith
+
 loop-holds : tie.Need-loop-holds Inv-loop μ-loop
 loop-holds c = omega arith
 
@@ -38,4 +41,4 @@ pub line-end-spec : {M : Type 1} → statement M
 line-end-spec =
     tie.close
     (tie.spec
-    Inv-loop μ-loop least-requires loop-holds shared-slice-read-if1 returns add-i loop-less loop-again returns-2)
+    Inv-loop μ-loop least-requires pass-words-requires loop-holds shared-slice-read-if1 returns add-i loop-less loop-again returns-2)
