@@ -6,7 +6,7 @@ use parsing::Line;
 use parsing::parse;
 use printing::say;
 use printing::say_bad_line;
-use requests::Reply;
+use printing::say_refused;
 use requests::Request;
 use serving::serve;
 ghost use Rattle.memory.specs.Memory.{memory};
@@ -102,7 +102,7 @@ pub fn answer_line(
     if ahead::is_beyond(request) {
         return Answered {
             head,
-            end: say(out, at, Reply::Refused(1), &buffer[..0], &records[..0]),
+            end: say_refused(out, at, 1),
         };
     }
     if buffer.len() < n {

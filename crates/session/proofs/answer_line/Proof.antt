@@ -16,10 +16,10 @@ returns c =
 
 returns-2 : tie.Need-returns-2
 returns-2 c =
-    let known = c .before .before .before .before .before .before .before .before .before in
+    let known = c .before .before .before .before .before .before .before in
     beyond-answered _ _ _ _ _ _ _ _ _ _ _ _ _ (sym (known .before .before .parse .ensures) ∙ known .said .given .1)
-    (sym (c .before .before .before .before .before .before .before .is-beyond .ensures) ∙ c .before .before .before .before .before .before .if1 .taken)
-    (record { memory-stays = refl; buffer-stays = refl; records-stay = refl; wrote = c .before .before .say .ensures })
+    (sym (c .before .before .before .before .before .is-beyond .ensures) ∙ c .before .before .before .before .if1 .taken)
+    (record { memory-stays = refl; buffer-stays = refl; records-stay = refl; wrote = c .before .before .say-refused .ensures })
 
 returns-3 : tie.Need-returns-3
 returns-3 c =
@@ -47,8 +47,8 @@ filled c = c .before .before .before .before .before .before .before .before .be
 abbrev told : tie.After-buffer → tie.After-said
 told c = c .before .before .before .before .before .before .before
 
-same-length-6 : tie.Need-same-length-6
-same-length-6 c =
+same-length-4 : tie.Need-same-length-4
+same-length-4 c =
     let t = called c in
     let f = filled t in
     length-front (f .before .fill .last .1 .1 .1 .0) (t .answer-call .last .1 .1 .1 .1 .0) (told f .said .given .0 .1 .0)
@@ -75,7 +75,6 @@ answer-line-spec =
     tie.close
     (tie.spec
     (λ c κs. search needs) (λ c. search needs) (λ c. search needs) (λ c κs. search needs) (λ c. search needs) returns (λ c κs. search needs)
-    (λ c. search needs) (λ c. search needs) (λ c. search needs) (λ c. search needs) (λ c κs. search needs) (λ c. search needs) (λ c. search needs)
-    (λ c. search needs) returns-2 returns-3 (λ c κs. search needs) (λ c. search needs) slice-aggregate-answer-call (λ c κs. search needs)
-    (λ c. search needs) same-length-6 (λ c. search needs) (λ c. search needs) (λ c. search needs) (λ c. search needs) (λ c. search needs)
-    (λ c. search needs) (λ c. search needs) (λ c. search needs) (λ c. search needs) returns-4)
+    (λ c κs. search needs) (λ c. search needs) returns-2 returns-3 (λ c κs. search needs) (λ c. search needs) slice-aggregate-answer-call
+    (λ c κs. search needs) (λ c. search needs) same-length-4 (λ c. search needs) (λ c. search needs) (λ c. search needs) (λ c. search needs)
+    (λ c. search needs) (λ c. search needs) (λ c. search needs) (λ c. search needs) (λ c. search needs) returns-4)
