@@ -1,6 +1,7 @@
 // Each call after its name, and the line as a whole.
 use crate::Line;
 use crate::Named;
+use crate::Pair;
 use fields::Bytes;
 use fields::Field;
 use fields::begins_with;
@@ -9,9 +10,11 @@ use fields::number_after_blank;
 use machine::PageCall;
 use requests::Request;
 ghost use mathlib.Core.Path.{_≡_};
-ghost use Prim.Native.Nat.{_≤_};
+ghost use Prim.Native.Nat.{ℕ, _≤_};
 ghost use lib.ListN.{length, drop};
 ghost use Rattle.parsing.specs.Grammar.{startLine, pairLine, freeLine, readLine, writeLine, listLine, orNamed, pageNamed, parsed};
+ghost use Rattle.parsing.specs.Steps.{paired};
+ghost use Rattle.requests.specs.declared.Request.{Request as RequestType};
 ghost use Rattle.requests.specs.declared.Request.the-variants as request-is;
 
 fn start_line(line: &[u8], at: usize) -> Line
@@ -36,19 +39,30 @@ fn start_line(line: &[u8], at: usize) -> Line
     Line::Call(Request::Start(s, n, f, p), 0)
 }
 
+// The two numbers from a place to the line's end. What is made of them comes after: read here, they stand in one place.
+fn last_pair(line: &[u8], at: usize) -> Pair
+    requires { ⌜ at ≤ length (now line) ⌝ }
+    ensures { λ r. ⌜ ((make : ℕ → ℕ → RequestType) → pairLine make (drop at (now (line .entry))) ≡ paired make r) ⌝ }
+{
+    let Field::Number(one, at) = number_after_blank(line, at) else {
+        return Pair::Nothing;
+    };
+    let Field::Number(two, at) = number_after_blank(line, at) else {
+        return Pair::Nothing;
+    };
+    if at != line.len() {
+        return Pair::Nothing;
+    }
+    Pair::Numbers(one, two)
+}
+
 fn page_line(line: &[u8], at: usize, call: PageCall) -> Line
     requires { ⌜ at ≤ length (now line) ⌝ }
     ensures { λ r. ⌜ r ≡ pairLine (λ i b. request-is.Page call i b) (drop at (now (line .entry))) ⌝ }
 {
-    let Field::Number(i, at) = number_after_blank(line, at) else {
+    let Pair::Numbers(i, b) = last_pair(line, at) else {
         return Line::Bad;
     };
-    let Field::Number(b, at) = number_after_blank(line, at) else {
-        return Line::Bad;
-    };
-    if at != line.len() {
-        return Line::Bad;
-    }
     Line::Call(Request::Page(call, i, b), 0)
 }
 
@@ -66,15 +80,9 @@ fn translate_line(line: &[u8], at: usize) -> Line
     requires { ⌜ at ≤ length (now line) ⌝ }
     ensures { λ r. ⌜ r ≡ pairLine (λ i x. request-is.Translate i x) (drop at (now (line .entry))) ⌝ }
 {
-    let Field::Number(i, at) = number_after_blank(line, at) else {
+    let Pair::Numbers(i, x) = last_pair(line, at) else {
         return Line::Bad;
     };
-    let Field::Number(x, at) = number_after_blank(line, at) else {
-        return Line::Bad;
-    };
-    if at != line.len() {
-        return Line::Bad;
-    }
     Line::Call(Request::Translate(i, x as usize), 0)
 }
 

@@ -16,3 +16,9 @@ pub enum Named {
     Page(PageCall, usize),
     Other,
 }
+
+// The two numbers that end a line, or that it doesn't end in two.
+pub enum Pair {
+    Numbers(u32, u32),
+    Nothing,
+}

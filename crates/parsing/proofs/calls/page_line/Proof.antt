@@ -1,40 +1,15 @@
--- Two numbers, then the end.
+-- What is made of the two numbers, or a bad line.
+use mathlib.Core.Path.{sym, ap, _∙_}
 use borrow.Author.Needs.{needs}
-use Rattle.fields.specs.Laws.{end-here, more-here, took, took-none}
+use Rattle.parsing.specs.Steps.{paired}
 use Rattle.parsing.proofs.calls.page_line.Statement.{statement}
 use Rattle.parsing.proofs.calls.page_line.Tie as tie
 
 returns : tie.Need-returns
-returns c = rw (took-none _ _ (c .before .before .number-after-blank .ensures) (c .enum-told .given .1))
-
-number-after-blank-requires-2 : tie.Need-number-after-blank-requires-2
-number-after-blank-requires-2 c κs = took _ _ (c .before .before .before .number-after-blank .ensures) (c .before .i .given .1) .0
+returns c = sym (c .before .before .last-pair .ensures _ ∙ ap (paired _) (c .enum-told .given .1))
 
 returns-2 : tie.Need-returns-2
-returns-2 c =
-    let at-i = c .before .before .before in
-    let i = took _ _ (at-i .before .before .before .number-after-blank .ensures) (at-i .before .i .given .1) in
-    rw (i .1, took-none _ _ (c .before .before .number-after-blank2 .ensures) (c .enum-told2 .given .1))
-
-returns-3 : tie.Need-returns-3
-returns-3 c =
-    let at-b = c .before in
-    let at-i = at-b .before .before .before .before in
-    let i = took _ _ (at-i .before .before .before .number-after-blank .ensures) (at-i .before .i .given .1) in
-    let b = took _ _ (at-b .before .before .before .number-after-blank2 .ensures) (at-b .before .b .given .1) in
-    rw (i .1, b .1, more-here _ _ (b .0) (c .if1 .taken))
-
-returns-4 : tie.Need-returns-4
-returns-4 c =
-    let at-b = c .before in
-    let at-i = at-b .before .before .before .before in
-    let i = took _ _ (at-i .before .before .before .number-after-blank .ensures) (at-i .before .i .given .1) in
-    let b = took _ _ (at-b .before .before .before .number-after-blank2 .ensures) (at-b .before .b .given .1) in
-    rw (i .1, b .1, end-here _ _ (c .if1 .left))
+returns-2 c = sym (c .before .before .before .last-pair .ensures _ ∙ ap (paired _) (c .before .i .given .1))
 
 pub page-line-spec : {M : Type 1} → statement M
-page-line-spec =
-    tie.close
-    (tie.spec
-    (λ c κs. search needs) (λ c. search needs) (λ c. search needs) returns number-after-blank-requires-2 (λ c. search needs) (λ c. search needs)
-    returns-2 returns-3 returns-4)
+page-line-spec = tie.close (tie.spec (λ c κs. search needs) (λ c. search needs) (λ c. search needs) returns returns-2)
