@@ -39,7 +39,7 @@ fn start_line(line: &[u8], at: usize) -> Line
     Line::Call(Request::Start(s, n, f, p), 0)
 }
 
-// The two numbers from a place to the line's end. What is made of them comes after: read here, they stand in one place.
+// The two numbers from a place to the line's end, for the calls that have just these: one function, so that a program reads them in one place.
 fn last_pair(line: &[u8], at: usize) -> Pair
     requires { ⌜ at ≤ length (now line) ⌝ }
     ensures { λ r. ⌜ ((make : ℕ → ℕ → RequestType) → pairLine make (drop at (now (line .entry))) ≡ paired make r) ⌝ }

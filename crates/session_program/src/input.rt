@@ -28,6 +28,7 @@ fn least(a: usize, b: usize) -> usize
     b
 }
 
+// A byte as a word; so its bound is asked for once.
 fn wide(b: u8) -> u64 {
     b as u64
 }
@@ -59,7 +60,7 @@ fn lowest_byte(word: u64) -> usize
     u64::trailing_zeros(word) as usize / 8
 }
 
-// Where the last whole word before `stop` begins, and one more.
+// Past the last place where a whole word begins before `stop`.
 fn words_end(stop: usize) -> usize
     ensures { λ r. ⌜ (0 < r → r + 7 ≤ stop) ⌝ }
 {
@@ -83,7 +84,7 @@ fn pass_words(input: &[u8], from: usize, stop: usize) -> usize
     i
 }
 
-// Where the line that begins at `from` ends: at its line feed, or at n.
+// Where the line that begins at `from` ends: at its line feed, or at n. Words are only passed over; the byte where that ends is looked at.
 fn line_end(input: &[u8], from: usize, n: usize) -> usize
     ensures { λ r. ⌜ (from ≤ n → from ≤ r) ⌝ }
 {
