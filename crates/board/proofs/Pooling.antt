@@ -99,7 +99,7 @@ module _ {c : Lent → Call} {k : Memory} {a : Answer} {k′ : Memory} (begins-n
   pub chain-changes : k′ .head .fresh ≡ k .head .fresh → changed chain (k .head) (k′ .head) ≡ k′ .head
   chain-changes e = sizes-same (k .head .fresh) (sym e)
 
--- ---- a number in memory
+-- ---- a number in memory: its place among the head's fields, the bytes before it, and that it is a number there
 abbrev position : Number → ℕ
 position first = 4
 position many = 5
@@ -120,6 +120,7 @@ headVals h =
     vcons (vint w32 (h .spaces)) (vcons (vint w32 (h .pages)) (vcons (vint w32 (h .frames)) (vcons (vstruct (vcons (vint w32 (h .page .shift)) vnil))
     (vcons (vint w32 (h .first)) (vcons (vint w32 (h .many)) (vcons (vint w32 (h .fresh)) vnil))))))
 
+-- what is stored of another head fits, and makes the value of the head with that number
 number-typed : (i : Number) (h : Head) → WT (headVal h) → Holds (hasTy (tyInt w32) (getV (headVals h) (position i))) × WT (getV (headVals h) (position i))
 number-typed first h w = (tt, w .1 .1 .1 .1 .0)
 number-typed many h w = (tt, w .1 .1 .1 .1 .1 .0)
@@ -130,6 +131,7 @@ number-put first h h′ = refl
 number-put many h h′ = refl
 number-put fresh h h′ = refl
 
+-- ---- the answer, a head and what the call says; and the head's cell
 abbrev answerTy : Sym → Ty → Ty
 answerTy ν τ = tyStruct ν (tcons T′.mir (tcons τ tnil))
 
@@ -139,6 +141,7 @@ answerVal h u = vstruct (vcons (headVal h) (vcons u vnil))
 abbrev headCell : ℕ × ℕ → Head → Fml
 headCell p h = cellAt fullShare (T.the-row .mir) (headVal h ∷ []) (p .0) (p .1)
 
+-- ---- the steps
 -- `(*_1).first = _n.0.first; ..`
 abbrev numbersStored : ℕ → List Number → Code → Code
 numbersStored n [] rest = rest
@@ -155,6 +158,7 @@ module _ {M : Type 1} {𝓤 : URA M} {H : Heap 𝓤} {A : Atoms 𝓤} {K : Type 
     (typed : Holds (hasTy T′.mir (headVal h′)) × WT (headVal h′)) (at-n : spotOf 𝓤 H E n ≡ (answerTy ν τ, l, zero))
     (e-n : nth 𝓤 H A m Γ ≡ ‵ (fat fullShare (answerTy ν τ) l zero (answerVal h′ u)))
     (e-1 : nth 𝓤 H A 7 Γ ≡ ‵ (fat fullShare (spotOf 𝓤 H E 1 .0) (spotOf 𝓤 H E 1 .1) zero (vptr (p .0) (p .1)))) where
+  -- one step over the three numbers, for each that is stored
   stores-numbers : K → (is : List Number) (h : Head) {rest : Code}
       → Step K W (‵ (headCell p (withNumbers is h h′)) ∷ Γ) (runs C Λ E rest q) (‵ (headCell p h) ∷ Γ) (runs C Λ E (numbersStored n is rest) q)
   stores-numbers t [] h = step (λ k. k)
