@@ -98,7 +98,7 @@ pub fn read(
     let first = page_of(head, address);
     let pages = spans::pages(head, address, n);
     if pages == 1 {
-        let found = look_checked(
+        let seen = look_checked(
             head,
             space,
             first as u32,
@@ -109,8 +109,8 @@ pub fn read(
             stack,
             cache,
         );
-        let Looked::Resident(frame) = found else {
-            return Copied::Refused(absence(found));
+        let Looked::Resident(frame) = seen else {
+            return Copied::Refused(absence(seen));
         };
         copy_frame(head, frame, address, buffer, ram);
         return Copied::Copied;

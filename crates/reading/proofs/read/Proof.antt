@@ -108,7 +108,7 @@ copy-frame-requires c κs =
     let t = l .before in (
       (_, part t),
       looked-low (lent (entry (t .before .before .before .before)) []) _ _ _ (part t) _ _ (t .before .before .page-of .ensures)
-          (l .look-checked .result) (f .found .given .1) (asks t []) (l .look-checked .ensures [] _),
+          (l .look-checked .result) (f .seen .given .1) (asks t []) (l .look-checked .ensures [] _),
     )
 
 returns-3 : tie.Need-returns-3 Inv-loop μ-loop
@@ -121,8 +121,8 @@ returns-3 c = λ link.
     let k = lent (entry (e .before)) link in
     read-copied _ _ k _ _ (checked (e .before) link) (e .if1 .left) _ _ (p .before .page-of .ensures) (p .pages .ensures)
     _ (omega (arith, t .if2 .taken))
-    (resident-more k _ _ _ (omega arith) (resident-none _ _ _) (asks t link) (l .look-checked .result) (l .look-checked .ensures link _) _ (f .found .given .1)) _
-    (looked-copied k _ _ _ (part t) _ _ (p .before .page-of .ensures) (l .look-checked .result) (f .found .given .1) (asks t link)
+    (resident-more k _ _ _ (omega arith) (resident-none _ _ _) (asks t link) (l .look-checked .result) (l .look-checked .ensures link _) _ (f .seen .given .1)) _
+    (looked-copied k _ _ _ (part t) _ _ (p .before .page-of .ensures) (l .look-checked .result) (f .seen .given .1) (asks t link)
     (l .look-checked .ensures link _) _ (c .before .before .copy-frame .ensures))
 
 -- ---- any other span
