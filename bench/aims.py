@@ -31,7 +31,8 @@ WORKLOAD = Aim("all actions of the workload", [], {"method": 200})
 COPIES = {1: 15, 4: 14, 4096: 410, 65536: 16 * 410}
 # These miss theirs until the find has the processor's own instruction for the highest bit of a word (request W-204): it tests one bit after another.
 WAITS = {"touch of an absent page", "look at an absent page"}
-# The session program's aim, at most 2.5 x the instructions of a player in C by hand for each line, has its place here once it is counted.
+# A line of a session, against a player of the same scripts by hand in C (bench/lines.sh counts both).
+LINES = Aim("a line of a session", [], {"gcc": 250, "clang": 250})
 
 
 def dumps(folder):

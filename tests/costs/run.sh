@@ -20,3 +20,4 @@ bench/build "$made" target/bindings/libcorwystal.a check count workload
 counted "$made/counts" "$made/count"
 counted "$made/some" "$made/workload" some 100000
 python3 tests/costs/hold.py "$made/counts" "$made/some"
+bash tests/costs/lines.sh
