@@ -22,12 +22,12 @@ abbrev entry : tie.In-loop Inv-loop μ-loop → tie.Start Inv-loop μ-loop
 entry c = c .before .before .before .before .before .before .before .before .before
 
 -- the turn of a touch
-abbrev turn : tie.After-touch-next Inv-loop μ-loop → tie.In-loop Inv-loop μ-loop
+abbrev turn : tie.After-touch-checked Inv-loop μ-loop → tie.In-loop Inv-loop μ-loop
 turn c = c .before .before .before .before .before .before .before
 
 -- the touch, before its references came back
-abbrev touch-of : tie.After-slice-known12 Inv-loop μ-loop → tie.After-touch-next Inv-loop μ-loop
-touch-of c = c .before .before .before .before .before .before .before .before .before .before .before .before
+abbrev touch-of : tie.After-after Inv-loop μ-loop → tie.After-touch-checked Inv-loop μ-loop
+touch-of c = c .before .before .before .before .before .before .before .before .before .before .before .before .before
 
 -- what no touch before it took away
 touchable : (c : tie.In-loop Inv-loop μ-loop)
@@ -43,11 +43,11 @@ page-low c = let y = touchable c .ready in omega (arith, fit _ (y .sizes-ok) .fe
 loop-holds : tie.Need-loop-holds Inv-loop μ-loop
 loop-holds c = touched-none (c .before .before .before .before .before .before .before .pre .0)
 
-cast-touch-next : tie.Need-cast-touch-next Inv-loop μ-loop
-cast-touch-next c = omega (arith, page-low c)
+cast-touch-checked : tie.Need-cast-touch-checked Inv-loop μ-loop
+cast-touch-checked c = omega (arith, page-low c)
 
-touch-next-requires : tie.Need-touch-next-requires Inv-loop μ-loop
-touch-next-requires c κs = touchable (c .before .before .before .before .before .before)
+touch-checked-requires : tie.Need-touch-checked-requires Inv-loop μ-loop
+touch-checked-requires c κs = touchable (c .before .before .before .before .before .before)
 
 add-next : tie.Need-add-next Inv-loop μ-loop
 add-next c = let t = turn (touch-of c) in omega (arith, page-low t)
@@ -56,7 +56,7 @@ loop-less : tie.Need-loop-less Inv-loop μ-loop
 loop-less c = let t = turn (touch-of c) in omega (arith, t .loop-test .taken)
 
 loop-again : tie.Need-loop-again Inv-loop μ-loop
-loop-again c = let t = turn (touch-of c) in touched-more (t .before .loop .inv) (t .loop-test .taken) (touch-of c .touch-next .ensures .1)
+loop-again c = let t = turn (touch-of c) in touched-more (t .before .loop .inv) (t .loop-test .taken) (touch-of c .touch-checked .ensures)
 
 same-length : tie.Need-same-length Inv-loop μ-loop
 same-length c = touched-tables (c .before .loop .inv) .count .few .size
@@ -83,5 +83,5 @@ pub touch-all-spec : {M : Type 1} → statement M
 touch-all-spec =
     tie.close
     (tie.spec
-    Inv-loop μ-loop loop-holds cast-touch-next touch-next-requires add-next loop-less loop-again same-length same-length-2 same-length-3 same-length-4
+    Inv-loop μ-loop loop-holds cast-touch-checked touch-checked-requires add-next loop-less loop-again same-length same-length-2 same-length-3 same-length-4
     same-length-5 same-length-6 returns)
