@@ -10,6 +10,6 @@ pub find-checked-spec : {M : Type 1} → statement M
 find-checked-spec =
     tie.close
     (tie.spec
-    (λ c κs. passed _ _ _ (c .before .pre) .few-places) (λ c. search needs) (λ c. search needs) (λ c κs. search (whole-asked, layers-one))
-    (λ c. search (whole-sought, layers-one)) (λ c κs. search (whole-asked, layers-two)) (λ c. search (whole-sought, layers-two))
-    (λ c κs. search (whole-asked, layers-three)) (λ c. search (whole-sought, layers-three)))
+    (λ c κs. passed _ _ _ (c .before .pre) .few-places) (λ c. search needs) (λ c. search needs) (λ c κs. search (whole-asked, layers-three))
+    (λ c. search (whole-sought, layers-three)) (λ c κs. search (whole-asked, layers-two)) (λ c. search (whole-sought, layers-two))
+    (λ c κs. search (whole-asked, layers-one)) (λ c. search (whole-sought, layers-one)))
