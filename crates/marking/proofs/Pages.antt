@@ -18,13 +18,10 @@ use Rattle.laws.specs.Checking.{CheckPassed, ready, checked-no, checked-yes}
 use Rattle.marking.specs.Marking.{mark-did, drop-did}
 use Rattle.marking.specs.Steps.{Searchable, MarkedAt, DroppedAt}
 
-module _ (h : Head) (i b : ℕ) (l : Lengths) (number : ℕ) (check : number ≡ checkOf h l i (ltb b (h .pages))) where
-  module _ (pass : number ≡ 0) where
+module _ (h : Head) (i b : ℕ) (l : Lengths) where
+  module _ (pass : checkOf h l i (ltb b (h .pages)) ≡ 0) where
     known : CheckPassed h l i (ltb b (h .pages))
-    known = ready h l i _ (sym check ∙ pass)
-
-    pub sizes-pass : sizesOk (sizesOf h) ≡ true
-    sizes-pass = known .sizes-ok
+    known = ready h l i _ pass
 
     pub page-pass : (sizesOk (sizesOf h) ≡ true) × (i < h .spaces) × (b < h .pages)
     page-pass = (known .sizes-ok, known .space, ltb-true b (h .pages) (known .is-inside))
@@ -33,17 +30,18 @@ module _ (h : Head) (i b : ℕ) (l : Lengths) (number : ℕ) (check : number ≡
     first-pass = (known .sizes-ok, known .space, fit (sizesOf h) (known .sizes-ok) .some-pages)
 
   module _ (ws count : List ℕ) (lent : l ≡ lentTo (length ws) (length count)) where
-    checked : number ≡ checkOf h (lentTo (length ws) (length count)) i (ltb b (h .pages))
-    checked = check ∙ ap (λ (x : Lengths). checkOf h x i (ltb b (h .pages))) lent
+    number-is : checkOf h l i (ltb b (h .pages)) ≡ checkOf h (lentTo (length ws) (length count)) i (ltb b (h .pages))
+    number-is = ap (λ (x : Lengths). checkOf h x i (ltb b (h .pages))) lent
 
-    module _ (fails : number ≡ 0 → ⊥) (table helper stack cache link ram : List ℕ) where
-      pub mark-refused : let k = memory h ws count table helper stack cache link ram in Did (mark i b) k (refused number) k
-      mark-refused = mark-did i b _ _ _ (checked-no _ _ number _ _ _ _ checked fails refl refl)
+    module _ (number : ℕ) (check : number ≡ checkOf h l i (ltb b (h .pages))) (fails : checkOf h l i (ltb b (h .pages)) ≡ 0 → ⊥) where
+      module _ (table helper stack cache link ram : List ℕ) where
+        pub mark-refused : let k = memory h ws count table helper stack cache link ram in Did (mark i b) k (refused number) k
+        mark-refused = mark-did i b _ _ _ (checked-no _ _ number _ _ _ _ (check ∙ number-is) (λ z. fails (sym check ∙ z)) refl refl)
 
-      pub drop-refused : let k = memory h ws count table helper stack cache link ram in Did (drop i b) k (refused number) k
-      drop-refused = drop-did i b _ _ _ (checked-no _ _ number _ _ _ _ checked fails refl refl)
+        pub drop-refused : let k = memory h ws count table helper stack cache link ram in Did (drop i b) k (refused number) k
+        drop-refused = drop-did i b _ _ _ (checked-no _ _ number _ _ _ _ (check ∙ number-is) (λ z. fails (sym check ∙ z)) refl refl)
 
-    module _ (pass : number ≡ 0) (t p : ℕ) (et : t ≡ places (sizesOf h)) (ep : p ≡ placeOf (sizesOf h) i b) where
+    module _ (pass : checkOf h l i (ltb b (h .pages)) ≡ 0) (t p : ℕ) (et : t ≡ places (sizesOf h)) (ep : p ≡ placeOf (sizesOf h) i b) where
       pub searchable : Searchable t p ws count
       searchable =
           let long = known pass .lent in
@@ -61,9 +59,9 @@ module _ (h : Head) (i b : ℕ) (l : Lengths) (number : ℕ) (check : number ≡
         pub marked : (lo : ℕ) → lo ≡ placeOf (sizesOf h) i 0 → MarkedAt t lo p ws count a ws′ → (table helper stack cache link ram : List ℕ)
             → Did (mark i b) (memory h ws count table helper stack cache link ram) a (memory h ws′ count table helper stack cache link ram)
         marked lo el d table helper stack cache link ram =
-            mark-did i b _ _ _ (checked-yes _ _ number _ _ _ _ checked pass (rw (← ep, ← el) (d h table helper stack cache link ram (sym et))))
+            mark-did i b _ _ _ (checked-yes _ _ _ _ _ _ _ number-is pass (rw (← ep, ← el) (d h table helper stack cache link ram (sym et))))
 
         pub dropped : DroppedAt t p ws count a ws′ → (table helper stack cache link ram : List ℕ)
             → Did (drop i b) (memory h ws count table helper stack cache link ram) a (memory h ws′ count table helper stack cache link ram)
         dropped d table helper stack cache link ram =
-            drop-did i b _ _ _ (checked-yes _ _ number _ _ _ _ checked pass (rw (← ep) (d h table helper stack cache link ram (sym et))))
+            drop-did i b _ _ _ (checked-yes _ _ _ _ _ _ _ number-is pass (rw (← ep) (d h table helper stack cache link ram (sym et))))

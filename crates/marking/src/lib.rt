@@ -1,6 +1,7 @@
 // Marking and dropping regions.
 use checks::all_places;
 use checks::check;
+use checks::passes;
 use checks::place;
 use layer::Greatest;
 use machine::Done;
@@ -53,14 +54,10 @@ pub fn mark(head: Head, space: u32, page: u32, index: &mut [u64], count: &[u32])
         (doneSays r)
         (memory head (now (index .exit)) (now (count .entry)) table helper stack cache link ram)) ⌝ }
 {
-    let no = check(
-        head,
-        lent(index.len(), count.len()),
-        space,
-        page < head.pages,
-    );
-    if no != 0 {
-        return Done::Refused(no);
+    let lengths = lent(index.len(), count.len());
+    let inside = page < head.pages;
+    if !passes(head, lengths, space, inside) {
+        return Done::Refused(check(head, lengths, space, inside));
     }
     let t = all_places(head);
     mark_at(
@@ -95,14 +92,10 @@ pub fn drop(head: Head, space: u32, page: u32, index: &mut [u64], count: &[u32])
         (doneSays r)
         (memory head (now (index .exit)) (now (count .entry)) table helper stack cache link ram)) ⌝ }
 {
-    let no = check(
-        head,
-        lent(index.len(), count.len()),
-        space,
-        page < head.pages,
-    );
-    if no != 0 {
-        return Done::Refused(no);
+    let lengths = lent(index.len(), count.len());
+    let inside = page < head.pages;
+    if !passes(head, lengths, space, inside) {
+        return Done::Refused(check(head, lengths, space, inside));
     }
     drop_at(index, count, all_places(head), place(head, space, page))
 }
