@@ -1,86 +1,65 @@
--- `corwystal::corwystal_read` meets its contract: a walk of its MIR, by hand.
+-- `corwystal::corwystal_read` meets its contract: it passes its parameters on to the board's call, and codes its answer with the length of the buffer,
+-- which it reads first.
 -- Assumes nothing.
-use Rattle.board.proofs.Words.{refl, [], _∷_, List, URA, named, w32, w64, vptr, SProp, emp, via, fst∗, Memory, Routine, Heap, WpFn, Tables, Atoms, Fun}
-use Rattle.board.proofs.Words.{givenOf, tables, tablesOf, Given, ‵, raw, _$_, _∵_, !, qed, no-more, fmOf, Valss, flat, owns, valss, u32, u64, u8, ptr-vals}
-use Rattle.board.proofs.Words.{shr-tells, typesAt, calls-at, alive, Meets, tripleOf, Contract, Triple, ensured, lastsOf, entered, cited}
-use base.Fml.{ftrue}
-use denote.Triple.Clauses.{lasts}
-use denote.Enum.Laws as EL
-use denote.Struct.Laws as LL
-use Rattle.memory.proofs.Head as T
 use mathlib.Core.Path.{_≡_}
-use base.Fml.{fsep}
+use Prim.Native.Nat.{ℕ, suc}
+use mathlib.Core.List.{List}
 use lib.ListN.{length}
+use mir.Syntax.{Local, local, valueLocal, tyInt}
 use mir.Val.{vint}
+use base.Logic.{SProp}
+use base.Fml.{fsep, ftrue}
+use contract.Lifetimes.{toks}
+use types.Kit.{Given, ‵, raw, _$_, _∵_, !, qed}
+use types.Part.{sub, look-in}
+use types.Run.{init, stop, fld, load, of-opd, assigns}
 use denote.Builtin.{usize}
-use denote.Slice.{finally}
+use denote.RattleType.{owns}
+use denote.Enum.Laws as EL
+use Rattle.board.proofs.Words.{refl, [], _∷_, w32, w64, u8, u32, u64, givenOf, lasts, word, shared, unique, head}
 use Rattle.machine.proofs.Copied as R
 use Rattle.machine.proofs.Copied.Laws as R′
 use Rattle.requests.proofs.Answer as X
 use Rattle.requests.proofs.Answer.Laws as X′
 use Rattle.board.proofs.read as g
-use Rattle.board.proofs.read.Symbol as g-def
-use Rattle.board.proofs.read.Symbol.{name as #g}
 use Rattle.board.proofs.read.Met as g-thm
 use Rattle.requests.proofs.encode_copied as h
-use Rattle.requests.proofs.encode_copied.Symbol as h-def
-use Rattle.requests.proofs.encode_copied.Symbol.{name as #h}
 use Rattle.requests.proofs.encode_copied.Met as h-thm
-use Rattle.board.proofs.Walks.{Kind, word, shared, unique, typesOf, spellsOf, tellsOf, typedOf, meets, enters, others, relend, arg}
-use Rattle.corwystal.proofs.Passing.{hands-over, codes, told, measures, number, further, as-long}
+use Rattle.board.proofs.Frames.{holds, same, found, held, twice}
+use Rattle.board.proofs.Lending.{Kind, lives, typesOf, valsOf, lentLocals}
+use Rattle.board.proofs.Walks.{frontLocals, frontHeld, Frame, begun, further, begins, called, by-walk}
+use Rattle.corwystal.proofs.Passing.{passes, told, as-long, number}
 use Rattle.corwystal.proofs.corwystal_read.Key.{name as #f}
 use Rattle.corwystal.proofs.corwystal_read as f
 use Rattle.corwystal.proofs.corwystal_read.Statement as stated
 use Rattle.corwystal.proofs.corwystal_read.Code as code
 
-abbrev Callee : {M : Type 1} (𝓤 : URA M) (H : Heap 𝓤) (A : Atoms 𝓤) (mem : Memory → SProp 𝓤) (run : Routine → Fun 𝓤) → Contract 𝓤
-Callee 𝓤 H A mem run = tripleOf 𝓤 H A g.signature (g.spec 𝓤 H A mem run)
-
-abbrev Encoding : {M : Type 1} (𝓤 : URA M) (H : Heap 𝓤) (A : Atoms 𝓤) (mem : Memory → SProp 𝓤) (run : Routine → Fun 𝓤) → Contract 𝓤
-Encoding 𝓤 H A mem run = tripleOf 𝓤 H A h.signature (h.spec 𝓤 H A mem run)
-
 abbrev kinds : List Kind
-kinds = word w32 ∷ word w64 ∷ unique u8 ∷ shared u64 ∷ shared u32 ∷ shared u32 ∷ shared u32 ∷ shared u32 ∷ shared u32 ∷ shared u8 ∷ []
-
-module _ {M : Type 1} (𝓤 : URA M) (H : Heap 𝓤) (A : Atoms 𝓤) (W : Given 𝓤 H A) (mem : Memory → SProp 𝓤) (run : Routine → Fun 𝓤) (𝓣 : Tables 𝓤 H)
-    (known : Triple 𝓤 (𝓣 .C #g) (Callee 𝓤 H A mem run)) (known-h : Triple 𝓤 (𝓣 .C #h) (Encoding 𝓤 H A mem run)) where
-  f-meets : Meets 𝓤 H A f.signature (WpFn 𝓤 H (𝓣 .C) (𝓣 .Λ) code.function) (f.spec 𝓤 H A mem run)
-  f-meets =
-      meets 𝓤 H A f.signature (f.spec 𝓤 H A mem run) (WpFn 𝓤 H (𝓣 .C) (𝓣 .Λ) code.function) (λ κs. (ptr-vals, spellsOf 1 kinds (κs .1)))
-      (λ κs. (shr-tells (named 0) (κs .0) T.the-row, tellsOf 1 kinds (κs .1)))
-      (λ κs qs _ a _ are.
-      let P : SProp 𝓤 = alive 𝓤 H A g.signature κs qs in
-      let vals : Valss (typesOf 1 kinds (κs .1)) = valss (typesOf 1 kinds (κs .1)) (spellsOf 1 kinds (κs .1)) (a .1) in
-      via 𝓤 _ (fst∗ 𝓤 _ (emp 𝓤)) (
-      qed W (raw P ∷ ‵ (owns (typesAt (f.signature .params) κs) a (ptr-vals (a .0), vals)) ∷ []) ∵
-      enters ! (𝓣 .C) (𝓣 .Λ) code.function (vptr (a .0 .ptr .0) (a .0 .ptr .1) ∷ flat (typesOf 1 kinds (κs .1)) vals) _
-      ((tt, tt), typedOf 𝓤 H A W 1 kinds (κs .1) (a .1) (are .1)) (λ bs.
-      measures ! refl refl refl refl (are .1 .1 .1 .0 .0 .1 .0) $
-      relend ! refl refl refl refl refl refl refl refl (are .1 .1 .1 .0 .0 .1 .0) $
-      hands-over ! P _ $
-      calls-at ! (fmOf 𝓤 H (W .laws) 𝓣) (Callee 𝓤 H A mem run) known ((κs, qs, tt, a, (ptr-vals (a .0), vals)), tt)
-      (arg ! refl (arg ! refl
-      (arg ! refl (arg ! refl (arg ! refl (arg ! refl (arg ! refl (arg ! refl (arg ! refl (arg ! refl (arg ! refl (no-more !)))))))))))) (λ v.
-      codes ! (fmOf 𝓤 H (W .laws) 𝓣) R.the-row X.the-row P (ensured 𝓤 H A g.ended (g.clauses 𝓤 H A mem run) κs a tt)
-      (λ r. ensured 𝓤 H A h.ended (h.clauses 𝓤 H A mem run) tt (r, (length (a .1 .1 .1 .0 .now), tt)) tt)
-      (ensured 𝓤 H A f.ended (f.clauses 𝓤 H A mem run) κs a tt)
-      (fsep (usize .own (length (a .1 .1 .1 .0 .now)) (vint w64 (length (a .1 .1 .1 .0 .now)) ∷ [])) ftrue) (vint w64 (length (a .1 .1 .1 .0 .now)) ∷ []) v
-      (λ r is. EL.lawful R.the-type R′.the-laws 𝓤 H A W tt .typed r (v ∷ []) is .0)
-      (λ y w is. LL.lawful X.the-type X′.the-laws 𝓤 H A W .typed y (w ∷ []) is .0) (number 𝓤 H A W _ (are .1 .1 .1 .0 .0 .1 .0))
-      (λ r. known-h ((tt, tt, tt, (r, (length (a .1 .1 .1 .0 .now), tt)), (v ∷ [], (vint w64 (length (a .1 .1 .1 .0 .now)) ∷ [], tt))), tt))
-      (λ r. further ! refl (no-more !))
-      (λ r y. told 𝓤 H A W (lasts g.ended κs a) (lasts h.ended tt (r, (length (a .1 .1 .1 .0 .now), tt)))
-      {N = λ ws. length (ws .1 .1 .1 .0) ≡ length (a .1 .1 .1 .0 .now)}
-      (λ ws. as-long 𝓤 H A W 3 (finally u8 (a .1 .1 .1 .0 .name) (ws .1 .1 .1 .0))
-      (lastsOf κs (others (others (others (others (g.signature .params))))) (g.ended .kept .1 .1 .1 .1) (a .1 .1 .1 .1) (ws .1 .1 .1 .1)) _ _)
-      (λ ws full promised numbers. record { answer = r; numbers-are = numbers (ws .1 .1 .1 .0) full; promised = promised }))
-      refl refl refl tt refl))))
+kinds = head ∷ word w32 ∷ word w64 ∷ unique u8 ∷ shared u64 ∷ shared u32 ∷ shared u32 ∷ shared u32 ∷ shared u32 ∷ shared u32 ∷ shared u8 ∷ []
 
 pub corwystal-read-spec : {M : Type 1} → stated.statement M
-unfolding code.routine tablesOf
+unfolding code.routine
 corwystal-read-spec 𝓤 H 𝓜 𝓖 𝓡 =
-    entered 𝓤 H (tripleOf 𝓤 H (𝓖 .A) f.signature (f.spec 𝓤 H (𝓖 .A) (𝓜 .mem) (𝓡 .run)))
-    (tables 𝓤 H 𝓜 𝓡 code.env .C) (tables 𝓤 H 𝓜 𝓡 code.env .Λ) #f code.function (code.unfolded 𝓤 H 𝓜 𝓡)
-    (f-meets 𝓤 H (𝓖 .A) (givenOf 𝓤 H 𝓜 𝓖) (𝓜 .mem) (𝓡 .run) (tablesOf 𝓤 H 𝓜 (tables 𝓤 H 𝓜 𝓡 code.env))
-    (cited 𝓤 H (Callee 𝓤 H (𝓖 .A) (𝓜 .mem) (𝓡 .run)) 𝓜 𝓡 code.env #g g-def.routine code.calls-board·read (g-thm.met 𝓤 H 𝓜 𝓖 𝓡))
-    (cited 𝓤 H (Encoding 𝓤 H (𝓖 .A) (𝓜 .mem) (𝓡 .run)) 𝓜 𝓡 code.env #h h-def.routine code.calls-requests·encode-copied (h-thm.met 𝓤 H 𝓜 𝓖 𝓡)))
+    by-walk 𝓤 H 𝓜 𝓖 𝓡 kinds X.the-row (λ κs a. f.spec 𝓤 H (𝓖 .A) (𝓜 .mem) (𝓡 .run) κs a .ensures tt) code.env #f code.function (code.unfolded 𝓤 H 𝓜 𝓡)
+    (λ fm κs qs a are.
+    let W : Given 𝓤 H (𝓖 .A) = givenOf 𝓤 H 𝓜 𝓖 in
+    let P : SProp 𝓤 = toks 𝓤 (𝓖 .A) (lives kinds) κs qs in
+    let n : ℕ = length (a .1 .1 .1 .0 .now) in
+    let l : Local = local (tyInt w64) valueLocal in
+    let ls : List Local = l ∷ local R′.mir valueLocal ∷ lentLocals kinds in
+    let B : Frame kinds κs a 𝓤 H (𝓖 .A) X′.mir (frontLocals X′.mir kinds) (frontHeld kinds κs a) = begun kinds κs a 𝓤 H (𝓖 .A) X′.mir in
+    qed W (raw P ∷ ‵ (owns (typesOf (lives kinds) κs 0 kinds) a (valsOf (lives kinds) κs 0 kinds a)) ∷ []) ∵
+    begins ! X′.mir kinds ls (code.function .body) κs a _ are (λ bs.
+    assigns ! (of-opd ! (load ! (found ! (B .params .1 .1 .1 .0 .spot ls bs) (fld ! refl (stop !)))
+    (look-in ! (suc (suc (twice 4))) (sub ! 1 refl (held ! (B .params .1 .1 .1 .0 .item ls bs [])))))) (found ! (B .front .spots ls bs 0) (stop !))
+    (init ! (suc (suc (twice 12))) (B .front .items ls bs [] 0) (tt, record { fits = are .1 .1 .1 .0 .0 .1 .0 })) $
+    same ! 2 (B .front .puts ls bs [] (holds (vint w64 n) ∷ []) 0 _ refl) $
+    passes ! fm R.the-row P (g.spec 𝓤 H (𝓖 .A) (𝓜 .mem) (𝓡 .run) κs a .ensures tt) (λ x. h.spec 𝓤 H (𝓖 .A) (𝓜 .mem) (𝓡 .run) tt (x, (n, tt)) .ensures tt)
+    (f.spec 𝓤 H (𝓖 .A) (𝓜 .mem) (𝓡 .run) κs a .ensures tt) (fsep (usize .own n (vint w64 n ∷ [])) ftrue) (vint w64 n ∷ []) _ _
+    (EL.lawful R.the-type R′.the-laws 𝓤 H (𝓖 .A) W tt) refl (number 𝓤 H (𝓖 .A) W n (are .1 .1 .1 .0 .0 .1 .0)) kinds κs a are
+    (called 𝓤 H 𝓜 𝓖 𝓡 code.calls-board·read (g-thm.met 𝓤 H 𝓜 𝓖 𝓡 ((κs, qs, tt, a, valsOf (lives kinds) κs 0 kinds a), tt)))
+    (λ x v. called 𝓤 H 𝓜 𝓖 𝓡 code.calls-requests·encode-copied (h-thm.met 𝓤 H 𝓜 𝓖 𝓡 ((tt, tt, tt, (x, (n, tt)), (v ∷ [], (vint w64 n ∷ [], tt))), tt)))
+    (λ x y. told 𝓤 H (𝓖 .A) W (lasts g.ended κs a) (lasts h.ended tt (x, (n, tt))) {N = λ ws. length (ws .1 .1 .1 .0) ≡ n}
+    (λ ws. as-long 𝓤 H (𝓖 .A) W 3 (lasts g.ended κs a ws) _ _ _ _ refl)
+    (λ ws full promised numbers. record { answer = x; numbers-are = numbers (ws .1 .1 .1 .0) full; promised = promised }))
+    (further kinds κs a 𝓤 H (𝓖 .A) X′.mir l (holds (vint w64 n)) B) bs refl (λ v. refl)))
