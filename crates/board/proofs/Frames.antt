@@ -23,7 +23,7 @@ pub asks : {M : Type 1} (𝓤 : URA M) (P : SProp 𝓤) → ent 𝓤 P (sep 𝓤
 asks 𝓤 P = via 𝓤 (sep 𝓤 (emp 𝓤) P) (emp∗ 𝓤 P) (comm∗ 𝓤 (emp 𝓤) P)
 
 -- ---- a block for each local, in their order, and what each holds
-abbrev pub tyOf : Local → Ty
+abbrev tyOf : Local → Ty
 tyOf (local τ h) = τ
 
 abbrev pub Blocks : List Local → Type 0
@@ -233,7 +233,7 @@ module _ {M : Type 1} (𝓤 : URA M) (H : Heap 𝓤) (A : Atoms 𝓤) where
     reads = λ ls bs os v. h .reads (l′ ∷ ls) bs (o′ ∷ os) v;
   }
 
--- ---- the operands of a call, where each is a whole local
+-- ---- the operands of a call
 abbrev whole : Operand → ℕ
 whole (copy (place i st)) = i
 whole (int w n) = zero
@@ -251,7 +251,7 @@ heldAt (l ∷ ls) [] i = vacant
 heldAt (l ∷ ls) (o ∷ os) zero = o
 heldAt (l ∷ ls) (o ∷ os) (suc i) = heldAt ls os i
 
--- they are the locals xs, which hold vs
+-- each of xs is a whole local, and they hold vs
 abbrev pub Hands : List Local → List Held → List Operand → List Val → Type 0
 Hands ls os xs vs =
     _≡_ {A = List Operand × List Held} (map (λ x. copy (place (whole x) [])) xs, map (λ x. heldAt ls os (whole x)) xs) (xs, map holds vs)
