@@ -5,7 +5,6 @@ ghost use mathlib.Core.List.{List};
 ghost use Prim.Native.Nat.{ℕ, _-_, _≤_, _<_};
 ghost use Rattle.machine.specs.Machine as machine;
 ghost use Rattle.memory.specs.Memory.{memory};
-ghost use Rattle.promise.specs.Did.{Did};
 ghost use Rattle.laws.specs.Spans.{AllTouched};
 ghost use Rattle.touching.specs.Fits.{Touchable};
 

@@ -30,7 +30,7 @@ use Rattle.promise.specs.Did.{Did}
 use Rattle.releasing.specs.Models.{cutOk, oldestOf, spliced, cutFor, cutIf, cutSays, cutLeaves, ReleaseDone}
 use Rattle.pool.specs.Models.{newestOf}
 use Rattle.laws.specs.Models.{releaseLengths}
-use Rattle.laws.specs.Refusals.{words-none, Admitted, admitted, check-passes, kept-did, checked-did, passed-step}
+use Rattle.laws.specs.Refusals.{words-none, Admitted, admitted, kept-did, checked-did, passed-step}
 use Rattle.laws.specs.Checks.{page-check}
 use Rattle.laws.specs.Room.{owned-below}
 use Rattle.pool.specs.Chains.{times, linked-kept, chain-spliced}

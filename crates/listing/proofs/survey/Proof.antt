@@ -1,6 +1,6 @@
 -- The check, the count, then whether there is room.
 use native.Mathlib.Omega.{arith}
-use Rattle.listing.proofs.Called.{refused-early, sizes-pass, first-pass, space-inside, short, to-tell}
+use Rattle.listing.proofs.Called.{refused-early, first-pass, space-inside, short, to-tell}
 use borrow.Author.Needs.{needs}
 use Rattle.listing.proofs.survey.Statement.{statement}
 use Rattle.listing.proofs.survey.Tie as tie

@@ -1,10 +1,8 @@
 -- The check, then whether the page is a start, then the region.
-use mathlib.Core.Path.{refl, sym, ap, _∙_}
-use native.Mathlib.Omega.{arith}
+use mathlib.Core.Path.{refl, sym, _∙_}
 use borrow.Author.Needs.{needs}
 use Rattle.checks.specs.Passed.{passed, not-passed}
-use Rattle.laws.specs.Checking.{CheckPassed, ready}
-use Rattle.releasing.specs.Models.{cutFor}
+use Rattle.laws.specs.Checking.{ready}
 use Rattle.releasing.proofs.Releases.{page-known, tables-known, word-known, cut-refused, cut-asked}
 use Rattle.releasing.proofs.cut_of.Statement.{statement}
 use Rattle.releasing.proofs.cut_of.Tie as tie

@@ -1,8 +1,7 @@
 -- The page of the address lies in its space, and its place in the table.
 use mathlib.Core.Path.{ap, _∙_}
-use Prim.Native.Nat.{ℕ, _<_}
+use Prim.Native.Nat.{_<_}
 use native.Mathlib.Omega.{arith}
-use borrow.Author.Needs.{needs}
 use Rattle.machine.specs.Machine.{places, placeOf}
 use Rattle.machine.specs.Laws.Sizes.{fit, page-below, place-below}
 use Rattle.memory.specs.Memory.{at, sizesOf}
