@@ -1,6 +1,6 @@
 #!/usr/bin/env bash
 # Runs the collector board of examples/board under emulation: an interrupt at each instruction of each call, and a day of readings with one in each call. Both
-# are tried on the library as `rt staticlib` alone builds it, where they must go wrong.
+# are tried on libraries that no kernel can have, where they must go wrong.
 #     tests/board/run.sh            for the gate, some ten seconds; QEMU is installed if it can be, else this is left out and says so
 #     tests/board/run.sh broken     the day itself, on boards that are wrong in one way each (broken.c)
 set -euo pipefail
@@ -75,13 +75,19 @@ awk '
     END { exit bad || !scenes }' docs/KERNEL.md "$made/good" >&2 || fail "the numbers of docs/KERNEL.md"
 
 # The tests find what they are for.
-bash tests/ordinary.sh
-ordinary=target/ordinary/libcorwystal.a
-examples/board/run sweep "$ordinary" > "$made/bad" 2>&1 && fail "the sweep finds nothing wrong with the ordinary library"
-wrong=$(sed -nE 's/^scene release: : .* ([0-9]+) interrupts, ([0-9]+) wrong, .*/\2 of \1/p' "$made/bad")
-grep -qE '^[1-9]' <<< "$wrong" || fail "the sweep finds nothing wrong with the ordinary library's release: $(tail -n 3 "$made/bad")"
-examples/board/build "$ordinary" "$made/kernel"
-python3 examples/board/host.py "$made/kernel" day --aim --options vectors > "$made/bad" 2>&1 && fail "the day finds nothing wrong with the ordinary library"
+bash tests/careless.sh
+examples/board/run sweep target/ordinary/libcorwystal.a > "$made/bad" 2>&1 && fail "the sweep finds nothing wrong with the ordinary library"
+careless=target/careless/libcorwystal.a
+examples/board/run sweep "$careless" > "$made/bad" 2>&1 && fail "the sweep finds nothing wrong with the careless library"
+# An interrupt at each of the careless instructions makes the two calls go wrong, and no other call does.
+for scene in 'release: ' 'look: at a resident page'; do
+    grep -qE "^scene $scene: .* 302 wrong, [1-9]" "$made/bad" || fail "the sweep doesn't find what is wrong with the careless library: scene $scene"
+done
+if grep -E '^scene' "$made/bad" | grep -vE '^scene (release|look):' | grep -vE ', 0 wrong, 0 otherwise wrong$' > "$made/more"; then
+    fail "the sweep finds more wrong with the careless library than there is: $(head -n 3 "$made/more")"
+fi
+examples/board/build "$careless" "$made/kernel"
+python3 examples/board/host.py "$made/kernel" day --aim --options vectors > "$made/bad" 2>&1 && fail "the day finds nothing wrong with the careless library"
 
 grep -vE '^scene' "$made/good"
-echo "board: the library as rt staticlib alone builds it is found wrong: $wrong interrupts of a release"
+echo "board: the library as rt staticlib alone builds it is found wrong, and one with a release and a look that are careless of interrupts"

@@ -1,6 +1,6 @@
 #!/usr/bin/env bash
 # Holds the library's object code to what a kernel can have (inspect.py), and docs/KERNEL.md to the stack and the instructions of each call, read off the
-# code and measured (met.c). The inspection itself is tried on the library as `rt staticlib` alone builds it, and on small pieces with one fault each.
+# code and measured (met.c). The inspection itself is tried on libraries that no kernel can have (tests/careless.sh), and on small pieces with one fault each.
 #     tests/object/run.sh          for the gate, some twenty seconds; needs gcc, valgrind and python3
 #     tests/object/run.sh write    writes the table of docs/KERNEL.md anew, and holds all else
 set -euo pipefail
@@ -94,12 +94,11 @@ done
 awk '$2 > 1024 { exit 1 }' "$made/calls" || fail "a call has a frame of more than 1,024 bytes"
 
 # What the compiler does when nobody tells it of kernels is found.
-bash tests/ordinary.sh
-finds target/ordinary/libcorwystal.a 'memory below the stack pointer'
-grep -q '^corwystal_release.*: memory below the stack pointer' "$made/told" || fail "not found in the ordinary library: the red zone of release"
-for call in start touch write; do
-    grep -q "^corwystal_$call.*: register xmm" "$made/told" || fail "not found in the ordinary library: a vector register in $call"
-done
+bash tests/careless.sh
+finds target/ordinary/libcorwystal.a 'register xmm'
+finds target/careless/libcorwystal.a 'memory below the stack pointer'
+grep -q '^corwystal_release.*: memory below the stack pointer' "$made/told" || fail "not found in the careless library: the red zone of release"
+grep -q "^corwystal_look.*: register xmm" "$made/told" || fail "not found in the careless library: the vector register of look"
 
 f 'movq %rax, -8(%rsp)' 'ret' | wrong red_zone 'memory below the stack pointer'
 f 'mov %rsp, %rdi' 'movq $1, -16(%rdi)' 'ret' | wrong red_zone_by_another_register 'memory below the stack pointer'
