@@ -49,6 +49,7 @@ NOT_RUN = [
     (r"bench/run", "it takes minutes, and writes docs/MEASUREMENTS.md anew"),
     (r"examples/board/run( \w+)?", "tests/board runs it, where there is an emulator"),
     (r"(bash )?tests/\w+/run\.sh", "the gate runs it"),
+    (r"tests/object/run\.sh write", "it writes docs/KERNEL.md anew"),
     (r"(bash )?tests/\w+/run\.sh (broken|long \[SEED\] \[MINUTES\])", "it takes minutes; it is run by hand when its test changes"),
 ]
 
