@@ -29,7 +29,8 @@ WORKLOAD = Aim("all actions of the workload", [], {"method": 200})
 # What memcpy and memmove run depends on the C library and the processor, and is the same for every engine. So that the ratios don't depend on them, a copy
 # of so many bytes counts here with what it takes in glibc 2.36 with AVX2; the workload copies 4 bytes in each read and write.
 COPIES = {1: 15, 4: 14, 4096: 410, 65536: 16 * 410}
-# These miss theirs until the find has the processor's own instruction for the highest bit of a word (request W-204): it tests one bit after another.
+# These miss theirs at least until the find has the processor's own instruction for the highest bit of a word (request W-204): it tests one bit after
+# another.
 WAITS = {"touch of an absent page", "look at an absent page", "mark", "all actions of the workload"}
 # A line of a session, against a player of the same scripts by hand in C (bench/lines.sh counts both).
 LINES = Aim("a line of a session", [], {"gcc": 250, "clang": 250})

@@ -5,11 +5,38 @@ use Prim.Native.Nat.{ℕ}
 use native.Mathlib.Omega.{arith}
 use lib.ListN.{length}
 use Rattle.machine.specs.Machine.{Lent, Call, start, page, free, translate, read, write, list, facts, Effect, unchanged, prepared, startPut, pageMapped}
-use Rattle.machine.specs.Machine.{regionEmptied, spanStored, Answer}
+use Rattle.machine.specs.Machine.{regionEmptied, spanStored, Answer, Sizes}
 use Rattle.machine.specs.declared.PageCall.the-variants.{Mark, Drop, Touch, Look, Release}
 use Rattle.memory.specs.Memory.{Memory, sizesOf, lengths}
-use Rattle.promise.specs.Did.{BoundsBy, Did}
+use Rattle.promise.specs.Did.{Tables, Maps, BoundsBy, Did}
 use Rattle.laws.specs.Refusals.{PreparesNothing}
+
+-- words were changed, none added
+tables-long : {z : Sizes} {i c t e s a l : ℕ} {k k′ : Memory} → Tables z i c t e s a l k k′ → lengths k′ ≡ lengths k
+tables-long w = λ j.
+    record {
+      index = w .index .few .size j;
+      count = w .count .few .size j;
+      table = w .table .few .size j;
+      helper = w .helper .few .size j;
+      stack = w .stack .few .size j;
+      cache = w .cache .few .size j;
+      link = w .link .few .size j;
+      ram = length (w .ram j);
+    }
+
+maps-long : {z : Sizes} {i b n : ℕ} {k k′ : Memory} → Maps z i b n k k′ → length (k′ .ram) ≡ length (k .ram) → lengths k′ ≡ lengths k
+maps-long w r = λ j.
+    record {
+      index = length (w .index j);
+      count = w .count .few .size j;
+      table = w .table .few .size j;
+      helper = w .helper .few .size j;
+      stack = w .stack .few .size j;
+      cache = w .cache .few .size j;
+      link = w .link .few .size j;
+      ram = r j;
+    }
 
 lengths-by : (e : Effect) (n : ℕ) (k k′ : Memory) → BoundsBy e n k k′ → lengths k′ ≡ lengths k
 lengths-by unchanged n k k′ b = ap lengths b
@@ -24,54 +51,10 @@ lengths-by (prepared z) n k k′ b = λ j.
       link = length (b .link j);
       ram = length (b .ram j);
     }
-lengths-by (startPut i p) n k k′ b =
-    let w = b .words in
-    λ j.
-    record {
-      index = w .index .few .size j;
-      count = w .count .few .size j;
-      table = w .table .few .size j;
-      helper = w .helper .few .size j;
-      stack = w .stack .few .size j;
-      cache = w .cache .few .size j;
-      link = w .link .few .size j;
-      ram = length (w .ram j);
-    }
-lengths-by (pageMapped i p) n k k′ (w, ram) = λ j.
-    record {
-      index = length (w .index j);
-      count = w .count .few .size j;
-      table = w .table .few .size j;
-      helper = w .helper .few .size j;
-      stack = w .stack .few .size j;
-      cache = w .cache .few .size j;
-      link = w .link .few .size j;
-      ram = length (ram j);
-    }
-lengths-by (regionEmptied i p) n k k′ w = λ j.
-    record {
-      index = w .index .few .size j;
-      count = w .count .few .size j;
-      table = w .table .few .size j;
-      helper = w .helper .few .size j;
-      stack = w .stack .few .size j;
-      cache = w .cache .few .size j;
-      link = w .link .few .size j;
-      ram = length (w .ram j);
-    }
-lengths-by (spanStored i x vs) n k k′ b =
-    let w = b .maps in
-    λ j.
-    record {
-      index = length (w .index j);
-      count = w .count .few .size j;
-      table = w .table .few .size j;
-      helper = w .helper .few .size j;
-      stack = w .stack .few .size j;
-      cache = w .cache .few .size j;
-      link = w .link .few .size j;
-      ram = b .ram .few .size j;
-    }
+lengths-by (startPut i p) n k k′ b = tables-long (b .words)
+lengths-by (pageMapped i p) n k k′ b = maps-long (b .0) (ap length (b .1))
+lengths-by (regionEmptied i p) n k k′ b = tables-long b
+lengths-by (spanStored i x vs) n k k′ b = maps-long (b .maps) (b .ram .few .size)
 
 pub lengths-stay : (c : Lent → Call) (k : Memory) (a : Answer) (k′ : Memory) → Did c k a k′ → lengths k′ ≡ lengths k
 lengths-stay c k a k′ d = lengths-by (facts (c (lengths k)) .change) _ k k′ (d .bounds)

@@ -34,7 +34,7 @@ fn copy_frame(head: Head, frame: u32, x: usize, dst: &mut [u8], ram: &[u8])
     copy(&ram[from..to], dst);
 }
 
-// The bytes from address x on, all of one page, into dst, if the page is resident.
+// The bytes from address x on, all of one page that was found resident, into dst. A table's word that is no frame is passed over.
 fn read_part(head: Head, space: u32, x: usize, dst: &mut [u8], table: &[u32], ram: &[u8])
     requires { ⌜ Part head space x (length (now dst)) (now ram) × (places (sizesOf head) ≤ length (now table)) ⌝ }
     ensures { λ _. ⌜ CopiedBy head (now (table .entry)) (now (ram .entry)) space x (length (now (dst .entry))) (now (dst .exit)) ⌝ }

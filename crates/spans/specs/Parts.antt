@@ -29,4 +29,4 @@ placeIn h f x = f * sizesOf h .page + x % sizesOf h .page
 pub record RamPlace (h : Head) (x q : ℕ) : Type 0 where
   pub frame : ℕ
   pub below : frame < h .frames
-  pub is : q ≡ frame * sizesOf h .page + x % sizesOf h .page
+  pub is : q ≡ placeIn h frame x

@@ -10,6 +10,7 @@ ghost use lib.ListN.{length};
 ghost use Rattle.machine.specs.Machine.{sizesOk, spaceBytes, places, pageOfAddress, spanPages};
 ghost use Rattle.machine.specs.Claims.{Address};
 ghost use Rattle.memory.specs.Memory.{at, sizesOf};
+ghost use Rattle.spans.specs.Parts.{placeIn};
 ghost use Rattle.spans.specs.Spans.{absenceOf};
 
 // The refusal of a page that was looked up and isn't resident; 0 for one that is.
@@ -69,7 +70,7 @@ pub fn pages(h: Head, address: usize, n: usize) -> usize
 // Where in RAM address x is, if its page holds the frame.
 pub fn ram_place(h: Head, frame: u32, x: usize) -> usize
     requires { ⌜ sizesOk (sizesOf h) ≡ true ⌝ }
-    ensures { λ r. ⌜ r ≡ frame * sizesOf h .page + x % sizesOf h .page ⌝ }
+    ensures { λ r. ⌜ r ≡ placeIn h frame x ⌝ }
 {
     let size = h.page;
     (wide(frame) << size.shift) + size.offset(x)

@@ -1,4 +1,4 @@
-// Starting: the sizes set, the index and the resident counts prepared. Marking shares the lengths that it tests and the answer of a change.
+// Starting: the sizes set, the index and the resident counts prepared. Marking shares the lengths that it tests.
 use checks::all_places;
 use checks::check;
 use index::Change;
@@ -38,8 +38,8 @@ pub fn lent(index: usize, count: usize) -> Lengths
     }
 }
 
-// What a change of the index answers for the call that made it.
-pub fn changed(c: Change) -> Done
+// What a change of the index answers for the start that made it.
+fn changed(c: Change) -> Done
     ensures { λ r. ⌜ doneSays r ≡ changeSays c ⌝ }
 {
     match c {

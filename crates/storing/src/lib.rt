@@ -23,7 +23,7 @@ pub fn store_frame(head: Head, frame: u32, x: usize, src: &[u8], ram: &mut [u8])
     copy(src, &mut ram[from..to]);
 }
 
-// Stores src, all of one page, from address x on, if the page is resident.
+// Stores src, all of one page that is mapped, from address x on. A table's word that is no frame is passed over.
 fn write_part(head: Head, space: u32, x: usize, src: &[u8], table: &[u32], ram: &mut [u8])
     requires { ⌜ Part head space x (length (now src)) (now ram) × (places (sizesOf head) ≤ length (now table)) ⌝ }
     ensures { λ _. ⌜ Stored head space x (now (src .entry)) (now (table .entry)) (now (ram .entry)) (now (ram .exit)) ⌝ }
