@@ -1,5 +1,5 @@
--- One code played, and codes one after another: what they leave.
-use mathlib.Core.Path.{_≡_, refl, ap, _∙_}
+-- Codes played one after another: what they leave.
+use mathlib.Core.Path.{_≡_, refl, _∙_}
 use mathlib.Core.List.{List, [], _∷_, _++_}
 use Prim.Native.Nat.{ℕ, _+_, _-_, _*_, _/_, _≤_, _<_, min}
 use native.Mathlib.Nat.{zero-add, min-le-left, min-le-right}
@@ -8,32 +8,12 @@ use borrow.Rule.Slice.PartMut.{same-len-mid}
 use lib.ListN.{length}
 use Rattle.memory.specs.Memory.{Memory, lengths}
 use Rattle.demands.specs.History.{Event}
-use Rattle.requests.specs.Requests.{replied}
-use Rattle.serving.specs.Serves.{Serves}
-use Rattle.requests.specs.declared.Request.{Request}
-use Rattle.requests.specs.declared.Reply.{Reply}
-use Rattle.decoding.specs.declared.Parts.{Parts}
 use Rattle.decoding.specs.declared.Code.{Code}
 use Rattle.decoding.specs.declared.Code.the-variants.{Call, Unreadable}
-use Rattle.requests.specs.Codes.{encoded}
-use Rattle.codes.specs.Codes.{codeAt}
-use Rattle.codes.specs.Plays.{Desk, part, withPart, withReply, called, Calls, PlayedOne, Turns}
-use Rattle.codes.specs.Plays.Turns.{none, skip, turn}
-use Rattle.codes.specs.Laws.{turns-append}
-
-pub call-played : (q : Request) (p : Parts) (k : Memory) (bytes records : List ℕ) (k′ : Memory) (r : Reply) (reply′ buffer′ records′ : List ℕ)
-    → Serves q k (part (p .from) (p .to) bytes) (part (p .first) (p .last) records) r k′ buffer′ records′ → reply′ ≡ encoded (replied r buffer′ records′)
-    → Calls q p k bytes records k′ reply′ (withPart (p .from) (p .to) bytes buffer′) (withPart (p .first) (p .last) records records′)
-call-played q p k bytes records k′ r reply′ buffer′ records′ s e =
-    record {
-      answer = replied r buffer′ records′;
-      did = s .did;
-      reply-is = e;
-      bytes-are = ap (withPart (p .from) (p .to) bytes) (s .buffer-is);
-      records-are = ap (withPart (p .first) (p .last) records) (s .records-are);
-    }
-
--- ---- codes one after another
+use Rattle.plays.specs.Codes.{codeAt}
+use Rattle.plays.specs.Plays.{Desk, part, withReply, called, PlayedOne, Turns}
+use Rattle.plays.specs.Plays.Turns.{none, skip, turn}
+use Rattle.plays.specs.Laws.{turns-append}
 
 -- every buffer of the memory is as long as it was
 pub record Long (k₀ k : Memory) : Type 0 where

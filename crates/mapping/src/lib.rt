@@ -1,12 +1,12 @@
 // Mapping the pages of a span: each is touched by touch's own promise, ascending.
 use memory::Head;
-use touching::touch_checked;
+use paging::touch_checked;
 ghost use mathlib.Core.List.{List};
 ghost use Prim.Native.Nat.{ℕ, _-_, _≤_, _<_};
 ghost use Rattle.machine.specs.Machine as machine;
 ghost use Rattle.memory.specs.Memory.{memory};
 ghost use Rattle.laws.specs.Spans.{AllTouched};
-ghost use Rattle.touching.specs.Fits.{Touchable};
+ghost use Rattle.paging.specs.Fits.{Touchable};
 
 // Touches the pages from first to before end, ascending.
 pub fn touch_all(

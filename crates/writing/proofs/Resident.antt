@@ -12,8 +12,8 @@ use Rattle.lookup.specs.declared.Sight.the-variants.{Mapped}
 use Rattle.lookup.specs.Lookup.{seen-honest}
 use Rattle.promise.specs.Shown.{frameOf}
 use Rattle.lookup.specs.Sights.{frame-seen}
-use Rattle.touching.specs.Fits.{Touchable}
-use Rattle.touching.specs.Touches.{did-resident}
+use Rattle.paging.specs.Fits.{Touchable}
+use Rattle.paging.specs.Touches.{did-resident}
 use Rattle.surveying.specs.Surveys.{AllResident}
 
 module _ (k : Memory) (i : ℕ) where

@@ -20,7 +20,7 @@ use Rattle.laws.specs.Spans.{spanInside, writeLengths, AllTouched}
 use Rattle.laws.specs.SpanChecks.{write-check}
 use Rattle.lookup.specs.Ready.{Lookable}
 use Rattle.lookup.specs.Sights.{frame-is, lookable, still-ready}
-use Rattle.touching.specs.Fits.{Touchable}
+use Rattle.paging.specs.Fits.{Touchable}
 use Rattle.spans.specs.Parts.{Span, Part, placeIn}
 use Rattle.spans.specs.PartLaws.{one-page}
 use Rattle.surveying.specs.declared.Tally.{Tally}

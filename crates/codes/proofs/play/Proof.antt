@@ -6,7 +6,7 @@ use native.Mathlib.Omega.{arith}
 use borrow.Author.Needs.{needs}
 use borrow.Rule.Slice.PartMut.{mid-len}
 use Rattle.memory.specs.Memory.{memory}
-use Rattle.codes.specs.Laws.{played}
+use Rattle.plays.specs.Laws.{played}
 use Rattle.codes.proofs.Playing.{Playing, playing-none, playing-more, code-inside}
 use Rattle.codes.proofs.play.Statement.{statement}
 use Rattle.codes.proofs.play.Tie as tie

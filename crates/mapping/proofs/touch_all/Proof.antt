@@ -3,8 +3,8 @@ use Prim.Native.Nat.{_-_, _<_}
 use native.Mathlib.Omega.{arith}
 use Rattle.machine.specs.Laws.Sizes.{fit}
 use Rattle.memory.specs.Memory.{memory}
-use Rattle.touching.specs.Fits.{Touchable}
-use Rattle.touching.specs.Touches.{still-touchable}
+use Rattle.paging.specs.Fits.{Touchable}
+use Rattle.paging.specs.Touches.{still-touchable}
 use Rattle.mapping.proofs.Touching.{SoFar, touched-none, touched-more, touched-all, touched-tables}
 use Rattle.mapping.proofs.touch_all.Statement.{statement}
 use Rattle.mapping.proofs.touch_all.Tie as tie

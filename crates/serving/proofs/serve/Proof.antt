@@ -1,6 +1,6 @@
 -- Each arm is its call's own promise.
 use native.Mathlib.Omega.{arith}
-use Rattle.serving.proofs.Serving.{done-serves, free-serves, translated-serves, read-serves, list-serves}
+use Rattle.pages.specs.Serving.{done-serves, free-serves, translated-serves, read-serves, list-serves}
 use borrow.Author.Needs.{needs}
 use Rattle.serving.proofs.serve.Statement.{statement}
 use Rattle.serving.proofs.serve.Tie as tie

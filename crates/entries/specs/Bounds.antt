@@ -1,0 +1,50 @@
+-- On any memory: the bounds of what mapping a page changes.
+use mathlib.Core.Path.{_≡_, refl, subst}
+use mathlib.Core.List.{List}
+use Prim.Native.Nat.{ℕ, zero, suc, _+_, _<_}
+use native.Mathlib.Nat.{add-zero}
+use native.Mathlib.Omega.{arith}
+use lib.ListN.{set}
+use lib.Seq.{drop-set-lt}
+use Rattle.sequence.specs.Changes.{changed-set}
+use Rattle.memory.specs.Memory.{Memory, sizesOf}
+use Rattle.memory.specs.declared.Head.{Head}
+use Rattle.promise.specs.Did.{Words, framesLeft, Maps}
+use Rattle.promise.specs.Shown.{Shown}
+use Rattle.pool.specs.Models.{takenFrom}
+use Rattle.planning.specs.Planning.{Inside}
+use Rattle.entries.specs.Models.{mapPage}
+
+-- a frame taken changes no size
+pub sizes-taken : (link : List ℕ) (h : Head) (n : ℕ) → sizesOf (takenFrom link h n .head) ≡ sizesOf h
+sizes-taken link h zero = refl
+sizes-taken link h (suc n) = refl
+
+-- one word below n
+words-set : (n : ℕ) (ws : List ℕ) (i v : ℕ) → i < n → Words 1 n ws (set ws i v)
+words-set n ws i v h = record { few = changed-set ws i v; excess = drop-set-lt n ws i v h }
+
+-- a frame that is taken is one frame less
+one-less : (link : List ℕ) (h : Head) (n : ℕ) → h .many ≡ n → takenFrom link h n .frame < h .frames
+    → framesLeft h ≡ framesLeft (takenFrom link h n .head) + 1
+one-less link h zero e low = omega arith
+one-less link h (suc n) e low = omega arith
+
+-- what mapping may change: one word in each table
+pub map-bounds : (k : Memory) (i b p a : ℕ) → (Shown k i b → ⊥) → Inside k p a → Maps (sizesOf (k .head)) i b 1 k (mapPage k a p)
+map-bounds k i b p a hidden g =
+    record {
+      mapped = 1;
+      taken = one-less (k .link) (k .head) (k .head .many) refl (g .frame);
+      few = omega arith;
+      none = λ e. absurd (omega arith);
+      shown = λ all. absurd (hidden (subst (Shown k i) (add-zero b) (all 0 (omega arith))));
+      sizes = sizes-taken (k .link) (k .head) (k .head .many);
+      index = refl;
+      count = words-set _ (k .count) a _ (g .start);
+      table = words-set _ (k .table) p _ (g .place);
+      helper = words-set _ (k .helper) p _ (g .place);
+      stack = words-set _ (k .stack) _ p (g .top);
+      cache = words-set _ (k .cache) p a (g .place);
+      link = words-set _ (k .link) _ _ (g .frame);
+    }
