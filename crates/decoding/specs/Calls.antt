@@ -7,6 +7,8 @@ use Rattle.machine.specs.declared.PageCall.the-variants.{Mark, Drop, Touch, Loo
 use Rattle.requests.specs.declared.Request.{Request}
 use Rattle.requests.specs.declared.Request.the-variants as request-is
 use Rattle.decoding.specs.declared.Parts.{Parts}
+use Rattle.decoding.specs.declared.Kind.{Kind}
+use Rattle.decoding.specs.declared.Kind.the-variants.{Page, Other}
 use Rattle.decoding.specs.declared.Code.{Code}
 use Rattle.decoding.specs.declared.Code.the-variants.{Call, Unreadable}
 
@@ -47,17 +49,25 @@ spanCode kind i x from n whole = cond (fits i && inside from n whole) (Call (spa
 abbrev pub listCode : ℕ → ℕ → ℕ → ℕ → Code
 listCode i first n whole = cond (fits i && inside first n whole) (Call (request-is.List i) (recordParts first n)) Unreadable
 
+-- the page call of a kind
+abbrev pub pageKind : ℕ → Kind
+pageKind kind =
+    cond (eqb kind 2) (Page Mark)
+    (cond (eqb kind 3) (Page Drop)
+    (cond (eqb kind 4) (Page Touch)
+    (cond (eqb kind 5) (Page Look)
+    (cond (eqb kind 6) (Page Release) Other))))
+
 -- given how many bytes and how many numbers of records there are
-unfoldable pub decoded : ℕ → ℕ → ℕ → ℕ → ℕ → ℕ → ℕ → Code
-decoded kind a b c d wholeBytes wholeRecords =
+abbrev pub decodedAs : Kind → ℕ → ℕ → ℕ → ℕ → ℕ → ℕ → ℕ → Code
+decodedAs (Page p) kind a b c d wholeBytes wholeRecords = pageCode p a b
+decodedAs Other kind a b c d wholeBytes wholeRecords =
     cond (eqb kind 1) (startCode a b c d)
-    (cond (eqb kind 2) (pageCode Mark a b)
-    (cond (eqb kind 3) (pageCode Drop a b)
-    (cond (eqb kind 4) (pageCode Touch a b)
-    (cond (eqb kind 5) (pageCode Look a b)
-    (cond (eqb kind 6) (pageCode Release a b)
     (cond (eqb kind 7) (Call request-is.Free noParts)
     (cond (eqb kind 8) (translateCode a b)
     (cond (eqb kind 9) (spanCode 9 a b c d wholeBytes)
     (cond (eqb kind 10) (spanCode 10 a b c d wholeBytes)
-    (cond (eqb kind 11) (listCode a b c wholeRecords) Unreadable))))))))))
+    (cond (eqb kind 11) (listCode a b c wholeRecords) Unreadable)))))
+
+unfoldable pub decoded : ℕ → ℕ → ℕ → ℕ → ℕ → ℕ → ℕ → Code
+decoded kind = decodedAs (pageKind kind) kind

@@ -6,13 +6,14 @@ use native.Mathlib.Omega.{arith}
 use borrow.Author.Tests.{leb-true}
 use lib.Dec.{eqb, leb}
 use Rattle.machine.specs.Laws.Sizes.{both}
-use Rattle.machine.specs.declared.PageCall.the-variants.{Mark, Drop, Touch, Look, Release}
 use Rattle.requests.specs.declared.Request.{Request}
 use Rattle.requests.specs.declared.Request.the-variants.{Start, Page, Free, Translate, List}
 use Rattle.decoding.specs.declared.Parts.{Parts}
+use Rattle.decoding.specs.declared.Kind.{Kind}
+use Rattle.decoding.specs.declared.Kind.the-variants as kind-is
 use Rattle.decoding.specs.declared.Code.{Code}
 use Rattle.decoding.specs.declared.Code.the-variants.{Call, Unreadable}
-use Rattle.decoding.specs.Calls.{fits, inside, noParts, byteParts, recordParts, spanRequest, decoded}
+use Rattle.decoding.specs.Calls.{fits, inside, noParts, byteParts, recordParts, spanRequest, pageKind, decodedAs, decoded}
 
 pub record Inside (p : Parts) (wholeBytes wholeRecords : ℕ) : Type 0 where
   pub from-first : p .from ≤ p .to
@@ -53,17 +54,17 @@ module _ (q : Request) (p : Parts) (wholeBytes wholeRecords : ℕ) where
       let i = inside-fits t first n wholeRecords e in
       record { from-first = omega arith; bytes-fit = omega arith; first-first = omega arith; records-fit = omega arith }
 
-  pub decoded-inside : (kind a b c d : ℕ) → decoded kind a b c d wholeBytes wholeRecords ≡ Call q p → Inside p wholeBytes wholeRecords
-  unfolding decoded
-  decoded-inside kind a b c d =
+  -- a page call, whichever it is, is lent neither
+  inside-as : (k : Kind) (kind a b c d : ℕ) → decodedAs k kind a b c d wholeBytes wholeRecords ≡ Call q p → Inside p wholeBytes wholeRecords
+  inside-as (kind-is.Page x) kind a b c d = made (fits a && fits b) (Page x a b) noParts (λ _. no-parts)
+  inside-as kind-is.Other kind a b c d =
       either (eqb kind 1) _ _ (made (fits a && fits b && fits c && fits d) (Start a b c d) noParts (λ _. no-parts))
-      (either (eqb kind 2) _ _ (made (fits a && fits b) (Page Mark a b) noParts (λ _. no-parts))
-      (either (eqb kind 3) _ _ (made (fits a && fits b) (Page Drop a b) noParts (λ _. no-parts))
-      (either (eqb kind 4) _ _ (made (fits a && fits b) (Page Touch a b) noParts (λ _. no-parts))
-      (either (eqb kind 5) _ _ (made (fits a && fits b) (Page Look a b) noParts (λ _. no-parts))
-      (either (eqb kind 6) _ _ (made (fits a && fits b) (Page Release a b) noParts (λ _. no-parts))
       (either (eqb kind 7) _ _ (made true Free noParts (λ _. no-parts))
       (either (eqb kind 8) _ _ (made (fits a) (Translate a b) noParts (λ _. no-parts))
       (either (eqb kind 9) _ _ (made (fits a && inside c d wholeBytes) (spanRequest 9 a b) (byteParts c d) (byte-parts (fits a) c d))
       (either (eqb kind 10) _ _ (made (fits a && inside c d wholeBytes) (spanRequest 10 a b) (byteParts c d) (byte-parts (fits a) c d))
-      (either (eqb kind 11) _ _ (made (fits a && inside b c wholeRecords) (List a) (recordParts b c) (record-parts (fits a) b c)) no-call))))))))))
+      (either (eqb kind 11) _ _ (made (fits a && inside b c wholeRecords) (List a) (recordParts b c) (record-parts (fits a) b c)) no-call)))))
+
+  pub decoded-inside : (kind a b c d : ℕ) → decoded kind a b c d wholeBytes wholeRecords ≡ Call q p → Inside p wholeBytes wholeRecords
+  unfolding decoded
+  decoded-inside kind = inside-as (pageKind kind) kind

@@ -2,7 +2,8 @@
 use machine::PageCall;
 use requests::Request;
 ghost use mathlib.Core.Path.{_≡_};
-ghost use Rattle.decoding.specs.Calls.{fits, inside, noParts, startCode, pageCode, translateCode, spanRequest, spanCode, listCode, decoded};
+ghost use Rattle.decoding.specs.Calls.{fits, inside, noParts, startCode, pageCode, translateCode, spanRequest, spanCode, listCode};
+ghost use Rattle.decoding.specs.Calls.{pageKind, decoded};
 
 // The part of the byte buffer and the part of the records that a call is lent.
 pub struct Parts {
@@ -10,6 +11,12 @@ pub struct Parts {
     pub to: usize,
     pub first: usize,
     pub last: usize,
+}
+
+// The first number of a code: a call on a page, or any other.
+pub enum Kind {
+    Page(PageCall),
+    Other,
 }
 
 // What five numbers say.
@@ -136,16 +143,29 @@ fn list_code(i: u64, first: usize, n: usize, whole: usize) -> Code
     )
 }
 
+// The page call of a kind.
+fn page_kind(kind: u64) -> Kind
+    ensures { λ r. ⌜ r ≡ pageKind kind ⌝ }
+{
+    match kind {
+        2 => Kind::Page(PageCall::Mark),
+        3 => Kind::Page(PageCall::Drop),
+        4 => Kind::Page(PageCall::Touch),
+        5 => Kind::Page(PageCall::Look),
+        6 => Kind::Page(PageCall::Release),
+        _ => Kind::Other,
+    }
+}
+
+// The call that five numbers are, if they are one.
 pub fn decode(kind: u64, a: u64, b: u64, c: u64, d: u64, bytes: usize, records: usize) -> Code
     ensures { λ r. ⌜ r ≡ decoded kind a b c d bytes records ⌝ }
 {
+    if let Kind::Page(call) = page_kind(kind) {
+        return page_code(call, a, b);
+    }
     match kind {
         1 => start_code(a, b, c, d),
-        2 => page_code(PageCall::Mark, a, b),
-        3 => page_code(PageCall::Drop, a, b),
-        4 => page_code(PageCall::Touch, a, b),
-        5 => page_code(PageCall::Look, a, b),
-        6 => page_code(PageCall::Release, a, b),
         7 => Code::Call(Request::Free, no_parts()),
         8 => translate_code(a, b as usize),
         9 => span_code(9, a, b as usize, c as usize, d as usize, bytes),
