@@ -6,9 +6,10 @@ use lib.Dec.{leb}
 use lib.ListN.{length, drop}
 use Rattle.machine.specs.declared.PageCall.{PageCall}
 use Rattle.machine.specs.declared.PageCall.the-variants.{Mark, Drop, Touch, Look, Release}
-use Rattle.fields.specs.declared.Bytes.{Bytes}
-use Rattle.fields.specs.declared.Bytes.the-variants.{Count, Wrong}
-use Rattle.fields.specs.Fields.{begins, FieldTaken, nothing, number, fieldAt, hexCount}
+use Rattle.fields.specs.Fields.{begins, FieldTaken, nothing, number, fieldAt}
+use Rattle.hex.specs.declared.Bytes.{Bytes}
+use Rattle.hex.specs.declared.Bytes.the-variants.{Count, Wrong}
+use Rattle.hex.specs.Hex.{hexCount}
 use Rattle.requests.specs.declared.Request.{Request}
 use Rattle.requests.specs.declared.Request.the-variants.{Start, Page, Free, Translate, Read, Write, List as Listing}
 use Rattle.parsing.specs.declared.Named.{Named}

@@ -8,10 +8,12 @@ use borrow.Author.Tests.{leb-true}
 use lib.Dec.{leb}
 use lib.ListN.{length, drop}
 use Rattle.machine.specs.declared.PageCall.{PageCall}
-use Rattle.fields.specs.declared.Bytes.{Bytes}
-use Rattle.fields.specs.declared.Bytes.the-variants.{Count, Wrong}
-use Rattle.fields.specs.Fields.{begins, FieldTaken, nothing, number, fieldAt, allHex, hexCount, hexOf}
-use Rattle.fields.specs.Laws.{begins-long, either, Ends, Hex, Left, Counted, after, field-left, no-hex, bytes-counted}
+use Rattle.fields.specs.Fields.{begins, FieldTaken, nothing, number, fieldAt}
+use Rattle.fields.specs.Laws.{begins-long, either, Ends, Left, after, field-left}
+use Rattle.hex.specs.declared.Bytes.{Bytes}
+use Rattle.hex.specs.declared.Bytes.the-variants.{Count, Wrong}
+use Rattle.hex.specs.Hex.{allHex, hexCount, hexOf}
+use Rattle.hex.specs.Laws.{Hex, Counted, no-hex, bytes-counted}
 use Rattle.requests.specs.declared.Request.{Request}
 use Rattle.requests.specs.declared.Request.the-variants.{Start, Page, Free, Translate, Read, Write, List as Listing}
 use Rattle.parsing.specs.declared.Named.{Named}

@@ -2,11 +2,11 @@
 use crate::Line;
 use crate::Named;
 use crate::Pair;
-use fields::Bytes;
 use fields::Field;
 use fields::begins_with;
-use fields::hex_count;
 use fields::number_after_blank;
+use hex::Bytes;
+use hex::hex_count;
 use machine::PageCall;
 use requests::Request;
 ghost use mathlib.Core.Path.{_≡_};

@@ -18,8 +18,8 @@ use Rattle.requests.specs.declared.Request.{Request}
 use Rattle.requests.specs.declared.Request.the-variants.{Start, Page, Free, Translate, Read, Write, List as Listing}
 use Rattle.requests.specs.declared.Reply.{Reply}
 use Rattle.requests.specs.declared.Reply.the-variants as reply-is
-use Rattle.fields.specs.Fields.{bytesIn, allHex, hexOf, unhexed}
-use Rattle.fields.specs.Laws.{unhexed-all}
+use Rattle.hex.specs.Hex.{bytesIn, allHex, hexOf, unhexed}
+use Rattle.hex.specs.Laws.{unhexed-all}
 use Rattle.parsing.specs.Grammar.{parsed}
 use Rattle.parsing.specs.Laws.{few-bytes, write-hex}
 use Rattle.parsing.specs.declared.Line.{Line}
@@ -29,9 +29,9 @@ use Rattle.texts.specs.Writing.{Wrote}
 use Rattle.printing.specs.Text.{text}
 use Rattle.printing.specs.Writing.{shown, saidText}
 use Rattle.printing.specs.Laws.{said-whole}
-use Rattle.session.specs.Session.{beyond, lineCall, LineAnswer, answeredCall, answeredAs, answered}
+use Rattle.ahead.specs.Ahead.{beyond, filledBy}
+use Rattle.session.specs.Session.{lineCall, LineAnswer, answeredCall, answeredAs, answered}
 use Rattle.session.specs.Promise.{Left, Made, Answers, AnswersLine}
-use Rattle.session.specs.Filling.{filledBy}
 
 -- ---- the line's call
 

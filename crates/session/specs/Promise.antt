@@ -16,8 +16,9 @@ use Rattle.parsing.specs.declared.Line.the-variants.{Call, Bad}
 use Rattle.texts.specs.Text.{badLine}
 use Rattle.texts.specs.Writing.{Wrote}
 use Rattle.printing.specs.Writing.{saidText}
-use Rattle.session.specs.Session.{beyond, answered}
-use Rattle.session.specs.Filling.{filledBy, CallAnswered}
+use Rattle.ahead.specs.Ahead.{beyond, filledBy}
+use Rattle.session.specs.Session.{answered}
+use Rattle.session.specs.Filling.{CallAnswered}
 
 -- ---- on any memory, whatever the buffers
 

@@ -1,28 +1,18 @@
 -- A session of lines: what the plain machine answers to each. Document 01, "One session whole".
-use mathlib.Core.Bool.{Bool, true, false, not, _&&_}
+use mathlib.Core.Bool.{Bool, true, false}
 use mathlib.Core.List.{List, []}
-use Prim.Native.Nat.{ℕ, _*_}
-use lib.Dec.{leb}
+use Prim.Native.Nat.{ℕ}
 use Rattle.machine.specs.Machine as machine
 use Rattle.requests.specs.Requests.{requested}
 use Rattle.requests.specs.declared.Request.{Request}
 use Rattle.requests.specs.declared.Request.the-variants.{Start, Page, Free, Translate, Read, Write, List as Listing}
-use Rattle.fields.specs.Fields.{bytesIn, hexOf}
+use Rattle.hex.specs.Hex.{bytesIn, hexOf}
 use Rattle.parsing.specs.Grammar.{parsed}
 use Rattle.parsing.specs.declared.Line.{Line}
 use Rattle.parsing.specs.declared.Line.the-variants.{Call, Bad}
 use Rattle.texts.specs.Text.{badLine}
 use Rattle.printing.specs.Text.{text}
-
--- "Its sizes are further limited to T at most 1,024 and F x P at most 32,768"
-abbrev pub beyond : Request → Bool
-beyond (Start s n f p) = not (leb (s * n) 1024 && leb (f * p) 32768)
-beyond (Page p i b) = false
-beyond Free = false
-beyond (Translate i x) = false
-beyond (Read i x) = false
-beyond (Write i x) = false
-beyond (Listing i) = false
+use Rattle.ahead.specs.Ahead.{beyond}
 
 -- the call that a line's request is: a write has the bytes at the line's end, a read as many as its count, "`list`, with room for every region"
 abbrev pub lineCall : Request → ℕ → List ℕ → machine.Lent → machine.Call

@@ -1,6 +1,6 @@
 // A session: one line in, its answer out. Who reads lines and writes answers stands on it.
-mod ahead;
-
+use ahead::fill;
+use ahead::is_beyond;
 use memory::Head;
 use parsing::Line;
 use parsing::parse;
@@ -99,7 +99,7 @@ pub fn answer_line(
             end: say_bad_line(out, at),
         };
     };
-    if ahead::is_beyond(request) {
+    if is_beyond(request) {
         return Answered {
             head,
             end: say_refused(out, at, 1),
@@ -108,7 +108,7 @@ pub fn answer_line(
     if buffer.len() < n {
         return Answered { head, end: at };
     }
-    ahead::fill(request, line, n, buffer);
+    fill(request, line, n, buffer);
     answer_call(
         head,
         request,

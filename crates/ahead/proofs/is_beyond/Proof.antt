@@ -1,7 +1,7 @@
 -- Case by case.
 use borrow.Author.Needs.{needs}
-use Rattle.session.proofs.ahead.is_beyond.Statement.{statement}
-use Rattle.session.proofs.ahead.is_beyond.Tie as tie
+use Rattle.ahead.proofs.is_beyond.Statement.{statement}
+use Rattle.ahead.proofs.is_beyond.Tie as tie
 
 returns : tie.Need-returns
 returns c = rw (c .before .before .request .given .1) (c .is-large .ensures)

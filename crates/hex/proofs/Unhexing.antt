@@ -10,8 +10,9 @@ use lib.Dec.{leb}
 use lib.ListN.{length, take, drop, getD, set, length-set, take-append-drop}
 use lib.Seq.{take-suc-set, drop-set-lt, drop-drop}
 use Rattle.machine.specs.Laws.Sizes.{both}
-use Rattle.fields.specs.Fields.{isHex, allHex, nibble, bytesIn, hexOf, unhexed}
-use Rattle.fields.specs.Laws.{here, over, unhexed-all}
+use Rattle.fields.specs.Laws.{here, over}
+use Rattle.hex.specs.Hex.{isHex, allHex, nibble, bytesIn, hexOf, unhexed}
+use Rattle.hex.specs.Laws.{unhexed-all}
 
 -- ---- nothing is written
 

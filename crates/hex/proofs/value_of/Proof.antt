@@ -2,9 +2,9 @@
 use mathlib.Core.Logic.{⊎-elim}
 use native.Mathlib.Omega.{arith}
 use borrow.Author.Tests.{le-leb, lt-leb}
-use Rattle.fields.proofs.Reading.{hex-range}
-use Rattle.fields.proofs.value_of.Statement.{statement}
-use Rattle.fields.proofs.value_of.Tie as tie
+use Rattle.hex.proofs.Reading.{hex-range}
+use Rattle.hex.proofs.value_of.Statement.{statement}
+use Rattle.hex.proofs.value_of.Tie as tie
 
 sub-result : tie.Need-sub-result
 sub-result c =

@@ -5,10 +5,10 @@ use Prim.Native.Nat.{_≤_, _-_}
 use native.Mathlib.Omega.{arith}
 use borrow.Author.Needs.{needs}
 use lib.ListN.{length, drop}
-use Rattle.fields.specs.Fields.{allHex}
-use Rattle.fields.proofs.Reading.{hex-next, hex-end}
-use Rattle.fields.proofs.all_hex.Statement.{statement}
-use Rattle.fields.proofs.all_hex.Tie as tie
+use Rattle.hex.specs.Hex.{allHex}
+use Rattle.hex.proofs.Reading.{hex-next, hex-end}
+use Rattle.hex.proofs.all_hex.Statement.{statement}
+use Rattle.hex.proofs.all_hex.Tie as tie
 
 abbrev Inv-loop : tie.InvT-loop
 Inv-loop line from all₀ i₀ all i = (i ≤ length line) × (allHex (drop from line) ≡ all && allHex (drop i line))

@@ -1,8 +1,8 @@
 -- The tests in the order of `isHex`.
 use borrow.Author.Needs.{needs}
 use borrow.Author.Tests.{le-leb, lt-leb}
-use Rattle.fields.proofs.is_hex.Statement.{statement}
-use Rattle.fields.proofs.is_hex.Tie as tie
+use Rattle.hex.proofs.is_hex.Statement.{statement}
+use Rattle.hex.proofs.is_hex.Tie as tie
 
 returns : tie.Need-returns
 returns c = rw (← c .before .is-digit .ensures, c .if1 .taken)

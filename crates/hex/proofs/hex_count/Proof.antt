@@ -3,10 +3,10 @@ use native.Mathlib.Omega.{arith}
 use borrow.Author.Needs.{needs}
 use borrow.Author.Tests.{eq-eqb, ne-eqb, le-leb, lt-leb}
 use Rattle.sequence.specs.Tests.{failed, held}
 use Rattle.fields.specs.Laws.{over}
-use Rattle.fields.proofs.Reading.{hex-after}
-use Rattle.fields.proofs.hex_count.Statement.{statement}
-use Rattle.fields.proofs.hex_count.Tie as tie
+use Rattle.hex.proofs.Reading.{hex-after}
+use Rattle.hex.proofs.hex_count.Statement.{statement}
+use Rattle.hex.proofs.hex_count.Tie as tie
 
 returns : tie.Need-returns
 returns c =

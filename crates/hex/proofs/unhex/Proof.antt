@@ -2,9 +2,9 @@
 use Prim.Native.Nat.{_-_}
 use native.Mathlib.Omega.{arith}
 use Rattle.sequence.specs.Tests.{failed, held}
-use Rattle.fields.proofs.Unhexing.{no-room, few-digits, not-hex, Unhexing, none-written, reads, digits, one-written, all-written}
-use Rattle.fields.proofs.unhex.Statement.{statement}
-use Rattle.fields.proofs.unhex.Tie as tie
+use Rattle.hex.proofs.Unhexing.{no-room, few-digits, not-hex, Unhexing, none-written, reads, digits, one-written, all-written}
+use Rattle.hex.proofs.unhex.Statement.{statement}
+use Rattle.hex.proofs.unhex.Tie as tie
 
 abbrev Inv-loop : tie.InvT-loop
 Inv-loop line n buffer₀ at₀ i₀ buffer at i = Unhexing line n buffer₀ buffer at i

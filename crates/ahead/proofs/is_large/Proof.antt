@@ -8,8 +8,8 @@ use borrow.Author.Tests.{ltb-true, ltb-false, le-leb, lt-leb}
 use lib.Dec.{leb, ltb}
 use mir.Syntax.{w32, w64}
 use mir.Val.{Fits}
-use Rattle.session.proofs.ahead.is_large.Statement.{statement}
-use Rattle.session.proofs.ahead.is_large.Tie as tie
+use Rattle.ahead.proofs.is_large.Statement.{statement}
+use Rattle.ahead.proofs.is_large.Tie as tie
 
 product-fits : (a b : ℕ) → Fits w32 a → Fits w32 b → Fits w64 (a * b)
 product-fits a b x y = omega (arith, mul-le-mul {n₁ = a} {m₁ = b} {n₂ = 4294967295} {m₂ = 4294967295} (omega arith) (omega arith))

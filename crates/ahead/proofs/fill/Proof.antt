@@ -1,8 +1,8 @@
 -- Case by case.
 use mathlib.Core.Path.{refl}
 use borrow.Author.Needs.{needs}
-use Rattle.session.proofs.ahead.fill.Statement.{statement}
-use Rattle.session.proofs.ahead.fill.Tie as tie
+use Rattle.ahead.proofs.fill.Statement.{statement}
+use Rattle.ahead.proofs.fill.Tie as tie
 
 returns : tie.Need-returns
 returns c = rw (c .before .before .before .before .enum-told .given .1) (c .before .before .unhex .ensures)

@@ -1,12 +1,11 @@
 // What a session does ahead of a call: the limits of a start, the bytes of a write.
-use fields::unhex;
+use hex::unhex;
 use requests::Request;
 ghost use mathlib.Core.Bool.{not, _&&_};
 ghost use mathlib.Core.Path.{_≡_};
 ghost use Prim.Native.Nat.{_*_};
 ghost use lib.Dec.{leb};
-ghost use Rattle.session.specs.Session.{beyond};
-ghost use Rattle.session.specs.Filling.{filledBy};
+ghost use Rattle.ahead.specs.Ahead.{beyond, filledBy};
 
 fn is_large(s: u32, n: u32, f: u32, p: u32) -> bool
     ensures { λ r. ⌜ r ≡ not (leb (s * n) 1024 && leb (f * p) 32768) ⌝ }
@@ -18,7 +17,7 @@ fn is_large(s: u32, n: u32, f: u32, p: u32) -> bool
 }
 
 // Whether it is a start beyond the session's limits.
-pub(crate) fn is_beyond(request: Request) -> bool
+pub fn is_beyond(request: Request) -> bool
     ensures { λ r. ⌜ r ≡ beyond request ⌝ }
 {
     match request {
@@ -33,7 +32,7 @@ pub(crate) fn is_beyond(request: Request) -> bool
 }
 
 // The bytes of a write, from the line's end to the front of the buffer.
-pub(crate) fn fill(request: Request, line: &[u8], n: usize, buffer: &mut [u8])
+pub fn fill(request: Request, line: &[u8], n: usize, buffer: &mut [u8])
     ensures { λ _. ⌜ now (buffer .exit) ≡ filledBy request (now (line .entry)) n (now (buffer .entry)) ⌝ }
 {
     match request {
