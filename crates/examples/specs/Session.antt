@@ -16,7 +16,7 @@ use Rattle.machine.specs.Machine.{firstAbsence, anyOutside, countAbsent, touchA
 use Rattle.fields.specs.Fields.{begins, digitsAfter}
 use Rattle.parsing.specs.Grammar.{parsed}
 use Rattle.texts.specs.Text.{decimalWith}
-use Rattle.session.specs.Session.{answered}
+use Rattle.lines.specs.Session.{answered}
 
 -- every buffer as long as it may ever have to be
 abbrev pub all : Lent

@@ -10,8 +10,7 @@ use printing::say_refused;
 use requests::Request;
 use serving::serve;
 ghost use Rattle.memory.specs.Memory.{memory};
-ghost use Rattle.session.specs.Filling.{CallAnswered};
-ghost use Rattle.session.specs.Promise.{AnswersLine};
+ghost use Rattle.lines.specs.Promise.{CallAnswered, AnswersLine};
 
 // The head after a line, and where the line's answer ends.
 pub struct Answered {

@@ -3,7 +3,7 @@ use mathlib.Core.Path.{refl, sym, _∙_}
 use native.Mathlib.Omega.{arith}
 use lib.Seq.{length-take-le, length-front}
 use Rattle.texts.specs.Laws.{wrote-none}
-use Rattle.session.specs.Laws.{bad-answered, beyond-answered, short-answered, call-answered}
+use Rattle.lines.specs.Laws.{bad-answered, beyond-answered, short-answered, call-answered}
 use borrow.Author.Needs.{needs}
 use Rattle.session.proofs.answer_line.Statement.{statement}
 use Rattle.session.proofs.answer_line.Tie as tie
@@ -64,11 +64,7 @@ returns-4 c =
     call-answered _ _ _ _ _ _ _ _ _ _ _ _ _ (sym (known .before .before .parse .ensures) ∙ known .said .given .1)
     (sym (under .before .is-beyond .ensures) ∙ under .if1 .left) (f .before .before .before .if2 .left)
     (rw (← f .before .fill .ensures) (f .buffer .given))
-    (record {
-      bytes′ = t .answer-call .last .1 .1 .1 .1 .0;
-      answered = rw (← f .before .fill .ensures) (t .answer-call .ensures);
-      buffer-is = rw (← f .before .fill .ensures) refl;
-    })
+    (t .answer-call .last .1 .1 .1 .1 .0) (rw (← f .before .fill .ensures) (t .answer-call .ensures)) (rw (← f .before .fill .ensures) refl)
 
 pub answer-line-spec : {M : Type 1} → statement M
 answer-line-spec =

@@ -1,4 +1,3 @@
 pub mod Session
 pub mod Promise
-pub mod Filling
 pub mod Laws

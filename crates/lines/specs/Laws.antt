@@ -1,7 +1,7 @@
 -- A line's request is the line's call, and what answering it promises.
 use mathlib.Core.Path.{_≡_, refl, ap, _∙_, subst}
 use mathlib.Core.Bool.{Bool, true, false, cond}
-use mathlib.Core.List.{List, [], _∷_}
+use mathlib.Core.List.{List, [], _∷_, _++_}
 use Prim.Native.Nat.{ℕ, zero, suc, _+_, _-_, _*_, _/_, _≤_, _<_}
 use native.Mathlib.Omega.{arith}
 use borrow.Author.Tests.{le-leb, lt-leb}
@@ -30,8 +30,8 @@ use Rattle.printing.specs.Text.{text}
 use Rattle.printing.specs.Writing.{shown, saidText}
 use Rattle.printing.specs.Laws.{said-whole}
 use Rattle.ahead.specs.Ahead.{beyond, filledBy}
-use Rattle.session.specs.Session.{lineCall, LineAnswer, answeredCall, answeredAs, answered}
-use Rattle.session.specs.Promise.{Left, Made, Answers, AnswersLine}
+use Rattle.lines.specs.Session.{lineCall, LineAnswer, answeredCall, answeredAs, answered}
+use Rattle.lines.specs.Promise.{CallAnswered, Left, Answers, AnswersLine}
 
 -- ---- the line's call
 
@@ -128,14 +128,13 @@ module _ (line : List ℕ) (k : Memory) (at : ℕ) (out buffer records : List �
       }
 
   pub call-answered : (q : Request) (n : ℕ) → parsed line ≡ Call q n → beyond q ≡ false → n ≤ length buffer → length (filledBy q line n buffer) ≡ length buffer
-      → Made line k at out buffer records end k′ out′ buffer′ records′ q n → Promised
-  call-answered q n e under fits same made =
+      → (bytes′ : List ℕ) → CallAnswered q k (take n (filledBy q line n buffer)) records at out end k′ bytes′ records′ out′
+      → buffer′ ≡ bytes′ ++ drop n (filledBy q line n buffer) → Promised
+  call-answered q n e under fits same bytes′ a buffer-is =
       record {
-        did = rw (e, under, le-leb n (length buffer) fits) made;
+        did = rw (e, under, le-leb n (length buffer) fits) (record { bytes′ = bytes′; answered = a; buffer-is = buffer-is });
         honest = λ m S d.
             let filled = filledBy q line n buffer in
-            let a = made .answered in
-            let bytes′ = made .bytes′ in
             let c = line-call line n buffer records (lengths k) fits (d .numbers) q e in
             let s = a .serves in
             let f = serve-follows m k q (take n filled) records (replied (a .reply) bytes′ records′) k′ S (s .did) in

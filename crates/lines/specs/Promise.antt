@@ -7,20 +7,30 @@ use lib.Dec.{leb}
 use lib.ListN.{length, take, drop}
 use Rattle.machine.specs.Machine.{State}
 use Rattle.memory.specs.Memory.{Memory, lengths}
+use Rattle.pages.specs.Serves.{Serves}
 use Rattle.serving.specs.Steps.{Stands}
 use Rattle.requests.specs.declared.Request.{Request}
+use Rattle.requests.specs.declared.Reply.{Reply}
 use Rattle.requests.specs.declared.Reply.the-variants as reply-is
 use Rattle.parsing.specs.Grammar.{parsed}
 use Rattle.parsing.specs.declared.Line.{Line}
 use Rattle.parsing.specs.declared.Line.the-variants.{Call, Bad}
 use Rattle.texts.specs.Text.{badLine}
 use Rattle.texts.specs.Writing.{Wrote}
-use Rattle.printing.specs.Writing.{saidText}
+use Rattle.printing.specs.Writing.{saidText, Says}
 use Rattle.ahead.specs.Ahead.{beyond, filledBy}
-use Rattle.session.specs.Session.{answered}
-use Rattle.session.specs.Filling.{CallAnswered}
+use Rattle.lines.specs.Session.{answered}
 
 -- ---- on any memory, whatever the buffers
+
+-- a call was made on these bytes and records, and its reply said, on any memory
+pub record CallAnswered (q : Request) (k : Memory) (bytes records : List ℕ) (at : ℕ) (out : List ℕ) (end : ℕ) (k′ : Memory)
+    (bytes′ records′ out′ : List ℕ) : Type 0 where
+  pub reply : Reply
+  pub bytes-long : length bytes′ ≡ length bytes
+  pub records-long : length records′ ≡ length records
+  pub serves : Serves q k bytes records reply k′ bytes′ records′
+  pub says : Says at out reply bytes′ records′ end out′
 
 module _ (line : List ℕ) (k : Memory) (at : ℕ) (out buffer records : List ℕ) (end : ℕ) (k′ : Memory) (out′ buffer′ records′ : List ℕ) where
   -- memory and buffers stay, and this text is written
