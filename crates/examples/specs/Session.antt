@@ -15,7 +15,7 @@ use Rattle.machine.specs.Machine.{refused, refusedAfter, answers, afterAll, ste
 use Rattle.machine.specs.Machine.{firstAbsence, anyOutside, countAbsent, touchAll, stored, untilStart, records}
 use Rattle.fields.specs.Fields.{begins, digitsAfter}
 use Rattle.parsing.specs.Grammar.{parsed}
-use Rattle.texts.specs.Text.{decimalWith}
+use Rattle.digits.specs.Text.{decimalWith}
 use Rattle.lines.specs.Session.{answered}
 
 -- every buffer as long as it may ever have to be

@@ -24,8 +24,8 @@ use Rattle.parsing.specs.Grammar.{parsed}
 use Rattle.parsing.specs.Laws.{few-bytes, write-hex}
 use Rattle.parsing.specs.declared.Line.{Line}
 use Rattle.parsing.specs.declared.Line.the-variants.{Call, Bad}
+use Rattle.digits.specs.Writing.{Wrote}
 use Rattle.texts.specs.Text.{badLine}
-use Rattle.texts.specs.Writing.{Wrote}
 use Rattle.printing.specs.Text.{text}
 use Rattle.printing.specs.Writing.{shown, saidText}
 use Rattle.printing.specs.Laws.{said-whole}

@@ -15,8 +15,8 @@ use Rattle.requests.specs.declared.Reply.the-variants as reply-is
 use Rattle.parsing.specs.Grammar.{parsed}
 use Rattle.parsing.specs.declared.Line.{Line}
 use Rattle.parsing.specs.declared.Line.the-variants.{Call, Bad}
+use Rattle.digits.specs.Writing.{Wrote}
 use Rattle.texts.specs.Text.{badLine}
-use Rattle.texts.specs.Writing.{Wrote}
 use Rattle.printing.specs.Writing.{saidText, Says}
 use Rattle.ahead.specs.Ahead.{beyond, filledBy}
 use Rattle.lines.specs.Session.{answered}

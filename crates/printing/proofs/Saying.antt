@@ -14,9 +14,10 @@ use Rattle.requests.specs.Requests.{regionNumbers, replied}
 use Rattle.requests.specs.Laws.{records-length, numbers-length, records-numbers}
 use Rattle.requests.specs.declared.Reply.{Reply}
 use Rattle.requests.specs.declared.Reply.the-variants as reply-is
-use Rattle.texts.specs.Text.{decimal, regionsWord, numbersText}
-use Rattle.texts.specs.Writing.{Wrote}
-use Rattle.texts.specs.Laws.{wrote-none}
+use Rattle.digits.specs.Text.{decimal, numbersText}
+use Rattle.digits.specs.Writing.{Wrote}
+use Rattle.digits.specs.Laws.{wrote-none}
+use Rattle.texts.specs.Text.{regionsWord}
 use Rattle.printing.specs.Text.{text}
 use Rattle.printing.specs.Writing.{shown, roomy, saidText, Says}
 use Rattle.printing.specs.Laws.{said-whole}

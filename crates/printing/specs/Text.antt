@@ -4,8 +4,9 @@ use Prim.Native.Nat.{ℕ}
 use lib.ListN.{length}
 use Rattle.machine.specs.Machine.{Answer, done, old, new, resident, absent, pages, frames, at, bytes, regions, refused, refusedAfter}
 use Rattle.requests.specs.Requests.{regionNumbers}
-use Rattle.texts.specs.Text.{decimal, okWord, frameWord, oldWord, newWord, residentWord, noWords, absentWord, pagesWord, freeWord, atWord}
-use Rattle.texts.specs.Text.{bytesWord, bytesText, regionsWord, numbersText, noWord, blank}
+use Rattle.digits.specs.Text.{decimal, numbersText, blank}
+use Rattle.texts.specs.Text.{okWord, frameWord, oldWord, newWord, residentWord, noWords, absentWord, pagesWord, freeWord, atWord, bytesWord, bytesText}
+use Rattle.texts.specs.Text.{regionsWord, noWord}
 
 abbrev pub text : Answer → List ℕ
 text done = okWord

@@ -7,7 +7,7 @@ use lib.ListN.{length}
 use Rattle.requests.specs.Requests.{replied}
 use Rattle.requests.specs.declared.Reply.{Reply}
 use Rattle.requests.specs.declared.Reply.the-variants as reply-is
-use Rattle.texts.specs.Writing.{Wrote}
+use Rattle.digits.specs.Writing.{Wrote}
 use Rattle.printing.specs.Text.{text}
 
 -- how many numbers of the records a reply shows

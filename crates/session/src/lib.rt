@@ -5,10 +5,10 @@ use memory::Head;
 use parsing::Line;
 use parsing::parse;
 use printing::say;
-use printing::say_bad_line;
 use printing::say_refused;
 use requests::Request;
 use serving::serve;
+use texts::say_bad_line;
 ghost use Rattle.memory.specs.Memory.{memory};
 ghost use Rattle.lines.specs.Promise.{CallAnswered, AnswersLine};
 

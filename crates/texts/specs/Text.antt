@@ -1,23 +1,7 @@
--- Numbers, bytes and words as text: document 01, "One session whole". Definitions only.
-use mathlib.Core.Bool.{cond}
+-- The words of answers as text, and the bytes of a read: document 01, "One session whole". Definitions only.
 use mathlib.Core.List.{List, [], _∷_, _++_}
-use Prim.Native.Nat.{ℕ, zero, suc, _/_, _%_}
-use lib.Dec.{ltb}
-use Rattle.io.specs.Digits.{glyph}
-
--- ---- "Numbers are decimal, bytes two lowercase hex digits each, run together"
-
--- the digits of n, the first of them the greatest; given at least as much fuel as n has digits
-unfoldable pub decimalWith : ℕ → ℕ → List ℕ
-decimalWith zero n = []
-decimalWith (suc fuel) n = let more = decimalWith fuel (n / 10) ++ (glyph (n % 10) ∷ []) in cond (ltb n 10) (glyph n ∷ []) more
-
-abbrev pub decimal : ℕ → List ℕ
-decimal n = decimalWith (suc n) n
-
-unfoldable pub hexText : List ℕ → List ℕ
-hexText [] = []
-hexText (v ∷ vs) = glyph (v / 16) ∷ glyph (v % 16) ∷ hexText vs
+use Prim.Native.Nat.{ℕ}
+use Rattle.digits.specs.Text.{hexText, blank}
 
 -- ---- words, with the blanks beside them
 
@@ -77,18 +61,9 @@ regionsWord = 114 ∷ 101 ∷ 103 ∷ 105 ∷ 111 ∷ 110 ∷ 115 ∷ 32 ∷ []
 abbrev pub noWord : List ℕ
 noWord = 110 ∷ 111 ∷ 32 ∷ []
 
--- ` `
-abbrev pub blank : List ℕ
-blank = 32 ∷ []
-
--- ---- bytes and numbers after blanks
+-- ---- bytes after a blank
 
 -- "then the hex after a space if there is any"
 abbrev pub bytesText : List ℕ → List ℕ
 bytesText [] = []
 bytesText (v ∷ vs) = blank ++ hexText (v ∷ vs)
-
--- each number after a blank
-unfoldable pub numbersText : List ℕ → List ℕ
-numbersText [] = []
-numbersText (n ∷ ns) = blank ++ (decimal n ++ numbersText ns)

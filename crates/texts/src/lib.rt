@@ -1,132 +1,24 @@
-// Text written into a lent buffer after what stands there already: words, numbers, bytes in hex, and the
-// answers that are made of more than a word and a number.
-ghost use mathlib.Core.Path.{_≡_};
-ghost use mathlib.Core.List.{_++_};
-ghost use Prim.Native.Nat.{_+_, _*_, _≤_};
+// The words of answers in a lent buffer, after what stands there already, with the numbers and bytes that belong to them.
+use digits::put;
+use digits::put_hex;
+use digits::put_numbers;
+use digits::put_pair;
+ghost use mathlib.Core.Bool.{cond};
+ghost use mathlib.Core.List.{[], _++_};
+ghost use Prim.Native.Nat.{_+_, _≤_};
+ghost use lib.Dec.{leb};
 ghost use lib.ListN.{length};
-ghost use Rattle.io.specs.Digits.{glyph, digits};
-ghost use Rattle.texts.specs.Text.{decimal, hexText, bytesText, numbersText, blank};
-ghost use Rattle.texts.specs.Text.{frameWord, oldWord, newWord, residentWord, noWords, bytesWord, regionsWord, noWord};
-ghost use Rattle.texts.specs.Writing.{Wrote};
+ghost use Rattle.digits.specs.Text.{decimal, numbersText, blank};
+ghost use Rattle.digits.specs.Writing.{Wrote};
+ghost use Rattle.texts.specs.Text.{okWord, badLine, frameWord, oldWord, newWord, residentWord, noWords, absentWord, pagesWord, freeWord, atWord};
+ghost use Rattle.texts.specs.Text.{bytesWord, bytesText, regionsWord, noWord};
 
-// A word.
-pub fn put(out: &mut [u8], at: usize, word: &[u8]) -> usize
-    requires { ⌜ at + length (now word) ≤ length (now out) ⌝ }
-    ensures { λ r. ⌜ Wrote at (now (out .entry)) (now (word .entry)) r (now (out .exit)) ⌝ }
+// A call that has nothing to tell.
+pub fn put_ok(out: &mut [u8], at: usize) -> usize
+    requires { ⌜ at + 64 ≤ length (now out) ⌝ }
+    ensures { λ r. ⌜ Wrote at (now (out .entry)) okWord r (now (out .exit)) ⌝ }
 {
-    let n = word.len();
-    let mut i = 0;
-    while i < n {
-        out[at + i] = word[i];
-        i += 1;
-    }
-    at + n
-}
-
-// A hex digit of a number below 16.
-fn glyph_of(d: u8) -> u8
-    requires { ⌜ d ≤ 15 ⌝ }
-    ensures { λ r. ⌜ r ≡ glyph d ⌝ }
-{
-    if d < 10 { 48 + d } else { 87 + d }
-}
-
-// The last decimal digit of a number.
-fn put_digit(out: &mut [u8], at: usize, n: u64) -> usize
-    requires { ⌜ at + 1 ≤ length (now out) ⌝ }
-    ensures { λ r. ⌜ Wrote at (now (out .entry)) (digits 10 1 n) r (now (out .exit)) ⌝ }
-{
-    out[at] = glyph_of((n % 10) as u8);
-    at + 1
-}
-
-// The last two.
-fn put_two(out: &mut [u8], at: usize, n: u64) -> usize
-    requires { ⌜ at + 2 ≤ length (now out) ⌝ }
-    ensures { λ r. ⌜ Wrote at (now (out .entry)) (digits 10 2 n) r (now (out .exit)) ⌝ }
-{
-    let next = put_digit(out, at, n / 10);
-    put_digit(out, next, n)
-}
-
-// The last three.
-fn put_three(out: &mut [u8], at: usize, n: u64) -> usize
-    requires { ⌜ at + 3 ≤ length (now out) ⌝ }
-    ensures { λ r. ⌜ Wrote at (now (out .entry)) (digits 10 3 n) r (now (out .exit)) ⌝ }
-{
-    let next = put_two(out, at, n / 10);
-    put_digit(out, next, n)
-}
-
-// A number in decimal of any length, by way of an array of its digits.
-fn put_long(out: &mut [u8], at: usize, n: u64) -> usize
-    requires { ⌜ at + 20 ≤ length (now out) ⌝ }
-    ensures { λ r. ⌜ Wrote at (now (out .entry)) (decimal n) r (now (out .exit)) ⌝ }
-    ensures { λ r. ⌜ r ≤ at + 20 ⌝ }
-{
-    let mut digits = [0u8; 20];
-    let k = io::decimal(n, &mut digits);
-    put(out, at, &digits[..k])
-}
-
-// A number in decimal, at most 20 digits. Most have one to three, which go straight to their places.
-fn put_number(out: &mut [u8], at: usize, n: u64) -> usize
-    requires { ⌜ at + 20 ≤ length (now out) ⌝ }
-    ensures { λ r. ⌜ Wrote at (now (out .entry)) (decimal n) r (now (out .exit)) ⌝ }
-    ensures { λ r. ⌜ r ≤ at + 20 ⌝ }
-{
-    if n < 10 {
-        return put_digit(out, at, n);
-    }
-    if n < 100 {
-        return put_two(out, at, n);
-    }
-    if n < 1000 {
-        return put_three(out, at, n);
-    }
-    put_long(out, at, n)
-}
-
-// Bytes, two hex digits each.
-fn put_hex(out: &mut [u8], at: usize, bytes: &[u8]) -> usize
-    requires { ⌜ at + 2 * length (now bytes) ≤ length (now out) ⌝ }
-    ensures { λ r. ⌜ Wrote at (now (out .entry)) (hexText (now (bytes .entry))) r (now (out .exit)) ⌝ }
-{
-    let n = bytes.len();
-    let mut i = 0;
-    while i < n {
-        let b = bytes[i];
-        out[at + 2 * i] = glyph_of(b / 16);
-        out[at + 2 * i + 1] = glyph_of(b % 16);
-        i += 1;
-    }
-    at + 2 * n
-}
-
-// Numbers, each after a blank.
-fn put_numbers(out: &mut [u8], at: usize, numbers: &[u32]) -> usize
-    requires { ⌜ at + 21 * length (now numbers) ≤ length (now out) ⌝ }
-    ensures { λ r. ⌜ Wrote at (now (out .entry)) (numbersText (now (numbers .entry))) r (now (out .exit)) ⌝ }
-{
-    let n = numbers.len();
-    let mut next = at;
-    let mut i = 0;
-    while i < n {
-        next = put(out, next, b" ");
-        next = put_number(out, next, numbers[i] as u64);
-        i += 1;
-    }
-    next
-}
-
-// A word, then a number.
-pub fn put_pair(out: &mut [u8], at: usize, word: &[u8], n: u64) -> usize
-    requires { ⌜ at + length (now word) + 20 ≤ length (now out) ⌝ }
-    ensures { λ r. ⌜ Wrote at (now (out .entry)) (now (word .entry) ++ decimal n) r (now (out .exit)) ⌝ }
-    ensures { λ r. ⌜ r ≤ at + length (now (word .entry)) + 20 ⌝ }
-{
-    let next = put(out, at, word);
-    put_number(out, next, n)
+    put(out, at, b"ok")
 }
 
 // A frame that is mapped already.
@@ -156,6 +48,38 @@ pub fn put_resident(out: &mut [u8], at: usize, f: u32) -> usize
     put(out, next, b" 0")
 }
 
+// A page that isn't resident, with the index words.
+pub fn put_absent(out: &mut [u8], at: usize, w: u32) -> usize
+    requires { ⌜ at + 64 ≤ length (now out) ⌝ }
+    ensures { λ r. ⌜ Wrote at (now (out .entry)) (absentWord ++ decimal w) r (now (out .exit)) ⌝ }
+{
+    put_pair(out, at, b"absent ", w as u64)
+}
+
+// How many pages a release gave back.
+pub fn put_pages(out: &mut [u8], at: usize, n: u32) -> usize
+    requires { ⌜ at + 64 ≤ length (now out) ⌝ }
+    ensures { λ r. ⌜ Wrote at (now (out .entry)) (pagesWord ++ decimal n) r (now (out .exit)) ⌝ }
+{
+    put_pair(out, at, b"pages ", n as u64)
+}
+
+// How many frames are free.
+pub fn put_free(out: &mut [u8], at: usize, n: u32) -> usize
+    requires { ⌜ at + 64 ≤ length (now out) ⌝ }
+    ensures { λ r. ⌜ Wrote at (now (out .entry)) (freeWord ++ decimal n) r (now (out .exit)) ⌝ }
+{
+    put_pair(out, at, b"free ", n as u64)
+}
+
+// A place in the RAM.
+pub fn put_at(out: &mut [u8], at: usize, p: usize) -> usize
+    requires { ⌜ at + 64 ≤ length (now out) ⌝ }
+    ensures { λ r. ⌜ Wrote at (now (out .entry)) (atWord ++ decimal p) r (now (out .exit)) ⌝ }
+{
+    put_pair(out, at, b"at ", p as u64)
+}
+
 // What a read gave.
 pub fn put_bytes(out: &mut [u8], at: usize, bytes: &[u8]) -> usize
     requires { ⌜ (at + 1024 ≤ length (now out)) × (length (now bytes) ≤ 256) ⌝ }
@@ -178,6 +102,14 @@ pub fn put_regions(out: &mut [u8], at: usize, n: u32, numbers: &[u32]) -> usize
     put_numbers(out, next, numbers)
 }
 
+// A refusal.
+pub fn put_no(out: &mut [u8], at: usize, k: u32) -> usize
+    requires { ⌜ at + 64 ≤ length (now out) ⌝ }
+    ensures { λ r. ⌜ Wrote at (now (out .entry)) (noWord ++ decimal k) r (now (out .exit)) ⌝ }
+{
+    put_pair(out, at, b"no ", k as u64)
+}
+
 // A refusal of touch or look, with its index words.
 pub fn put_refusal(out: &mut [u8], at: usize, k: u32, w: u32) -> usize
     requires { ⌜ at + 64 ≤ length (now out) ⌝ }
@@ -185,4 +117,17 @@ pub fn put_refusal(out: &mut [u8], at: usize, k: u32, w: u32) -> usize
 {
     let next = put_pair(out, at, b"no ", k as u64);
     put_pair(out, next, b" ", w as u64)
+}
+
+// The answer to a line that is no call; where there isn't room nothing is written.
+pub fn say_bad_line(out: &mut [u8], at: usize) -> usize
+    ensures { λ r. ⌜ Wrote at (now (out .entry)) (cond (leb (at + 8) (length (now (out .entry)))) badLine []) r (now (out .exit)) ⌝ }
+{
+    if out.len() < at {
+        return at;
+    }
+    if out.len() - at < 8 {
+        return at;
+    }
+    put(out, at, b"bad line")
 }

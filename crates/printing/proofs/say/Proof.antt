@@ -8,7 +8,7 @@ use lib.ListN.{length}
 use lib.Seq.{length-take-le}
 use Rattle.requests.specs.Requests.{replied}
 use Rattle.requests.specs.declared.Reply.{Reply}
-use Rattle.texts.specs.Writing.{Wrote}
+use Rattle.digits.specs.Writing.{Wrote}
 use Rattle.printing.specs.Text.{text}
 use Rattle.printing.specs.Writing.{shown, Says}
 use Rattle.printing.proofs.Saying.{regions-text, short-out, many-bytes, many-records, records-lack, said}
@@ -51,8 +51,8 @@ module _ (e : tie.Else4) where
 
 returns-7 : tie.Need-returns-7
 returns-7 c =
-    let t = c .before .before .before .before .before in
-    roomed (t .before .before) _ (t .enum-told .given .1) (omega arith) (c .before .before .put .ensures)
+    let t = c .before .before .before .before in
+    roomed (t .before .before) _ (t .enum-told .given .1) (omega arith) (c .before .before .put-ok .ensures)
 
 returns-8 : tie.Need-returns-8
 returns-8 c =
@@ -71,23 +71,23 @@ returns-10 c =
 
 returns-11 : tie.Need-returns-11
 returns-11 c =
-    let t = c .before .before .before .before .before .before in
-    roomed (t .before .before) _ (t .reply4 .given .1) (omega arith) (c .before .before .put-pair .ensures .0)
+    let t = c .before .before .before .before .before in
+    roomed (t .before .before) _ (t .reply4 .given .1) (omega arith) (c .before .before .put-absent .ensures)
 
 returns-12 : tie.Need-returns-12
 returns-12 c =
-    let t = c .before .before .before .before .before .before in
-    roomed (t .before .before) _ (t .reply5 .given .1) (omega arith) (c .before .before .put-pair2 .ensures .0)
+    let t = c .before .before .before .before .before in
+    roomed (t .before .before) _ (t .reply5 .given .1) (omega arith) (c .before .before .put-pages .ensures)
 
 returns-13 : tie.Need-returns-13
 returns-13 c =
-    let t = c .before .before .before .before .before .before in
-    roomed (t .before .before) _ (t .reply6 .given .1) (omega arith) (c .before .before .put-pair3 .ensures .0)
+    let t = c .before .before .before .before .before in
+    roomed (t .before .before) _ (t .reply6 .given .1) (omega arith) (c .before .before .put-free .ensures)
 
 returns-14 : tie.Need-returns-14
 returns-14 c =
-    let t = c .before .before .before .before .before .before in
-    roomed (t .before .before) _ (t .reply7 .given .1) (omega arith) (c .before .before .put-pair4 .ensures .0)
+    let t = c .before .before .before .before .before in
+    roomed (t .before .before) _ (t .reply7 .given .1) (omega arith) (c .before .before .put-at .ensures)
 
 returns-15 : tie.Need-returns-15
 returns-15 c =
@@ -105,8 +105,8 @@ returns-16 c =
 
 returns-17 : tie.Need-returns-17
 returns-17 c =
-    let t = c .before .before .before .before .before .before in
-    roomed (t .before .before) _ (t .reply9 .given .1) (omega arith) (c .before .before .put-pair5 .ensures .0)
+    let t = c .before .before .before .before .before in
+    roomed (t .before .before) _ (t .reply9 .given .1) (omega arith) (c .before .before .put-no .ensures)
 
 returns-18 : tie.Need-returns-18
 returns-18 c =
@@ -117,12 +117,11 @@ pub say-spec : {M : Type 1} → statement M
 say-spec =
     tie.close
     (tie.spec
-    returns (λ c. search needs) returns-2 returns-3 returns-4 (λ c. search needs) (λ c. search needs) (λ c κs. search needs) (λ c. search needs)
-    (λ c κs. search needs) (λ c. search needs) (λ c κs. search needs) (λ c. search needs) (λ c κs. search needs) (λ c. search needs)
-    (λ c. search needs) (λ c. search needs) (λ c κs. search needs) (λ c. search needs) (λ c. search needs) (λ c. search needs) (λ c κs. search needs)
-    (λ c. search needs) (λ c. search needs) (λ c. search needs) (λ c κs. search needs) (λ c. search needs) (λ c. search needs) (λ c κs. search needs)
+    returns (λ c. search needs) returns-2 returns-3 returns-4 (λ c. search needs) (λ c κs. search needs) (λ c. search needs) (λ c κs. search needs)
+    (λ c. search needs) (λ c κs. search needs) (λ c. search needs) (λ c κs. search needs) (λ c. search needs) (λ c κs. search needs)
+    (λ c. search needs) (λ c κs. search needs) (λ c. search needs) (λ c κs. search needs) (λ c. search needs) (λ c κs. search needs)
     (λ c. search needs) (λ c κs. search needs) (λ c. search needs) returns-5 (λ c. search needs) (λ c. search needs) returns-6
-    slice-aggregate-put-regions put-regions-requires (λ c. search needs) (λ c. search needs) (λ c. search needs) (λ c κs. search needs)
-    (λ c. search needs) (λ c κs. search needs) (λ c. search needs) returns-7 (λ c. search needs) returns-8 (λ c. search needs) returns-9
-    (λ c. search needs) returns-10 (λ c. search needs) returns-11 (λ c. search needs) returns-12 (λ c. search needs) returns-13 (λ c. search needs)
-    returns-14 (λ c. search needs) returns-15 (λ c. search needs) returns-16 (λ c. search needs) returns-17 (λ c. search needs) returns-18)
+    slice-aggregate-put-regions put-regions-requires (λ c. search needs) (λ c κs. search needs) (λ c. search needs) (λ c κs. search needs)
+    (λ c. search needs) returns-7 (λ c. search needs) returns-8 (λ c. search needs) returns-9 (λ c. search needs) returns-10 (λ c. search needs)
+    returns-11 (λ c. search needs) returns-12 (λ c. search needs) returns-13 (λ c. search needs) returns-14 (λ c. search needs) returns-15
+    (λ c. search needs) returns-16 (λ c. search needs) returns-17 (λ c. search needs) returns-18)

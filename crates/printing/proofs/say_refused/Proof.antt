@@ -13,7 +13,7 @@ returns-2 : tie.Need-returns-2
 returns-2 c = short-out _ _ _ _ _ (omega arith)
 
 returns-3 : tie.Need-returns-3
-returns-3 c = said _ _ _ _ _ _ refl (omega arith) (omega arith) (omega arith) (omega arith) (c .before .before .put-pair .ensures .0)
+returns-3 c = said _ _ _ _ _ _ refl (omega arith) (omega arith) (omega arith) (omega arith) (c .before .before .put-no .ensures)
 
 pub say-refused-spec : {M : Type 1} → statement M
-say-refused-spec = tie.close (tie.spec returns (λ c. search needs) returns-2 (λ c. search needs) (λ c κs. search needs) (λ c. search needs) returns-3)
+say-refused-spec = tie.close (tie.spec returns (λ c. search needs) returns-2 (λ c κs. search needs) (λ c. search needs) returns-3)

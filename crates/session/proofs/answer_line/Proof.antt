@@ -2,7 +2,7 @@
 use mathlib.Core.Path.{refl, sym, _∙_}
 use native.Mathlib.Omega.{arith}
 use lib.Seq.{length-take-le, length-front}
-use Rattle.texts.specs.Laws.{wrote-none}
+use Rattle.digits.specs.Laws.{wrote-none}
 use Rattle.lines.specs.Laws.{bad-answered, beyond-answered, short-answered, call-answered}
 use borrow.Author.Needs.{needs}
 use Rattle.session.proofs.answer_line.Statement.{statement}

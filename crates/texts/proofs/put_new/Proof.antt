@@ -1,6 +1,6 @@
 -- The frame, then the words.
 use borrow.Author.Needs.{needs}
-use Rattle.texts.specs.Laws.{wrote-more}
+use Rattle.digits.specs.Laws.{wrote-more}
 use Rattle.texts.proofs.put_new.Statement.{statement}
 use Rattle.texts.proofs.put_new.Tie as tie
 

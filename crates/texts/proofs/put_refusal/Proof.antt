@@ -1,6 +1,6 @@
 -- The number, then the words.
 use borrow.Author.Needs.{needs}
-use Rattle.texts.specs.Laws.{wrote-more}
+use Rattle.digits.specs.Laws.{wrote-more}
 use Rattle.texts.proofs.put_refusal.Statement.{statement}
 use Rattle.texts.proofs.put_refusal.Tie as tie
 

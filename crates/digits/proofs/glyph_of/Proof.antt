@@ -1,8 +1,8 @@
 -- By the test.
 use borrow.Author.Needs.{needs}
 use borrow.Author.Tests.{lt-ltb, le-ltb}
-use Rattle.texts.proofs.glyph_of.Statement.{statement}
-use Rattle.texts.proofs.glyph_of.Tie as tie
+use Rattle.digits.proofs.glyph_of.Statement.{statement}
+use Rattle.digits.proofs.glyph_of.Tie as tie
 
 returns : tie.Need-returns
 returns c = rw (lt-ltb _ _ (c .if1 .taken))

@@ -4,12 +4,12 @@ use Prim.Native.Nat.{_+_, _-_, _*_, _≤_}
 use native.Mathlib.Omega.{arith}
 use lib.ListN.{length, take}
 use lib.Seq.{take-length}
-use Rattle.texts.specs.Text.{numbersText, blank}
-use Rattle.texts.specs.Writing.{Wrote}
-use Rattle.texts.specs.Laws.{wrote-none, wrote-more}
-use Rattle.texts.proofs.Written.{numbers-more}
-use Rattle.texts.proofs.put_numbers.Statement.{statement}
-use Rattle.texts.proofs.put_numbers.Tie as tie
+use Rattle.digits.specs.Text.{numbersText, blank}
+use Rattle.digits.specs.Writing.{Wrote}
+use Rattle.digits.specs.Laws.{wrote-none, wrote-more}
+use Rattle.digits.proofs.Written.{numbers-more}
+use Rattle.digits.proofs.put_numbers.Statement.{statement}
+use Rattle.digits.proofs.put_numbers.Tie as tie
 
 abbrev Inv-loop : tie.InvT-loop
 Inv-loop out₀ at numbers n next₀ i₀ t7 out next i =

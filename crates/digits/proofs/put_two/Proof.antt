@@ -1,8 +1,8 @@
 -- The digits before the last one, then that.
 use borrow.Author.Needs.{needs}
-use Rattle.texts.specs.Laws.{wrote-more}
-use Rattle.texts.proofs.put_two.Statement.{statement}
-use Rattle.texts.proofs.put_two.Tie as tie
+use Rattle.digits.specs.Laws.{wrote-more}
+use Rattle.digits.proofs.put_two.Statement.{statement}
+use Rattle.digits.proofs.put_two.Tie as tie
 
 returns : tie.Need-returns
 returns c = wrote-more (c .before .before .before .before .before .before .put-digit .ensures) (c .before .before .put-digit2 .ensures)

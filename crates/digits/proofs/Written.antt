@@ -1,4 +1,4 @@
--- One store more, one byte or number more, bytes or none, and the digits of a number.
+-- One store more, one byte or number more, and the digits of a number.
 use mathlib.Core.Path.{_≡_, refl, sym, ap}
 use mathlib.Core.List.{List, [], _∷_, _++_, append-assoc, append-nil}
 use Prim.Native.Nat.{ℕ, zero, suc, _+_, _-_, _/_, _%_, _^_, _≤_, _<_}
@@ -9,9 +9,9 @@ use borrow.Author.Tests.{lt-ltb, le-ltb}
 use lib.ListN.{length, take, set, getD, length-set}
 use lib.Seq.{take-suc, set-split}
 use Rattle.io.specs.Digits.{glyph, digits, Fewest}
-use Rattle.texts.specs.Text.{decimal, decimalWith, hexText, bytesText, numbersText, blank}
-use Rattle.texts.specs.Writing.{Wrote}
-use Rattle.texts.specs.Laws.{wrote-more}
+use Rattle.digits.specs.Text.{decimal, decimalWith, hexText, numbersText, blank}
+use Rattle.digits.specs.Writing.{Wrote}
+use Rattle.digits.specs.Laws.{wrote-more}
 
 -- ---- writing
 
@@ -46,16 +46,6 @@ numbers-append (n ∷ xs) ys = rw (numbers-append xs ys, append-assoc (decimal n
 pub numbers-more : (xs : List ℕ) (i : ℕ) → i < length xs → numbersText (take (i + 1) xs) ≡ (numbersText (take i xs) ++ blank) ++ decimal (getD xs i 0)
 unfolding numbersText
 numbers-more xs i h = rw (take-more xs i h, numbers-append, append-nil, append-assoc)
-
--- ---- what a read gave
-
-pub bytes-none : (bs : List ℕ) → length bs ≡ 0 → bytesText bs ≡ []
-bytes-none [] e = refl
-bytes-none (b ∷ bs) e = absurd (omega arith)
-
-pub bytes-some : (bs : List ℕ) → (length bs ≡ 0 → ⊥) → bytesText bs ≡ blank ++ hexText bs
-bytes-some [] h = absurd (h refl)
-bytes-some (b ∷ bs) h = refl
 
 -- ---- decimal digits
 

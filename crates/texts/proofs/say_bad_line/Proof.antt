@@ -4,9 +4,9 @@ use native.Mathlib.Omega.{arith}
 use borrow.Author.Needs.{needs}
 use borrow.Author.Tests.{le-leb, lt-leb}
 use lib.ListN.{length}
-use Rattle.texts.specs.Laws.{wrote-none}
-use Rattle.printing.proofs.say_bad_line.Statement.{statement}
-use Rattle.printing.proofs.say_bad_line.Tie as tie
+use Rattle.digits.specs.Laws.{wrote-none}
+use Rattle.texts.proofs.say_bad_line.Statement.{statement}
+use Rattle.texts.proofs.say_bad_line.Tie as tie
 
 returns : tie.Need-returns
 returns c =

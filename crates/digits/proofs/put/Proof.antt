@@ -5,11 +5,11 @@ use native.Mathlib.Nat.{add-zero, add-assoc}
 use native.Mathlib.Omega.{arith}
 use lib.ListN.{length, take}
 use lib.Seq.{take-length}
-use Rattle.texts.specs.Writing.{Wrote}
-use Rattle.texts.specs.Laws.{wrote-none}
-use Rattle.texts.proofs.Written.{wrote-next, take-more}
-use Rattle.texts.proofs.put.Statement.{statement}
-use Rattle.texts.proofs.put.Tie as tie
+use Rattle.digits.specs.Writing.{Wrote}
+use Rattle.digits.specs.Laws.{wrote-none}
+use Rattle.digits.proofs.Written.{wrote-next, take-more}
+use Rattle.digits.proofs.put.Statement.{statement}
+use Rattle.digits.proofs.put.Tie as tie
 
 abbrev Inv-loop : tie.InvT-loop
 Inv-loop out₀ at word n i₀ out i = (i ≤ length word) × Wrote at out₀ (take i word) (at + i) out

@@ -6,7 +6,7 @@ use native.Mathlib.Nat.{add-zero}
 use native.Mathlib.Omega.{arith}
 use lib.ListN.{length, take, drop, take-append-drop, length-append, length-take, length-drop}
 use lib.Seq.{length-take-le, take-at, drop-at, drop-drop}
-use Rattle.texts.specs.Writing.{Wrote}
+use Rattle.digits.specs.Writing.{Wrote}
 
 pub wrote-none : (at : ℕ) (out : List ℕ) → Wrote at out [] at out
 wrote-none at out = record { long = refl; end-is = omega arith; out-is = rw (add-zero, take-append-drop) }

@@ -1,9 +1,9 @@
 -- The digits of io, put as a word.
 use native.Mathlib.Omega.{arith}
 use borrow.Author.Needs.{needs}
-use Rattle.texts.proofs.Written.{decimal-is, few-digits}
-use Rattle.texts.proofs.put_long.Statement.{statement}
-use Rattle.texts.proofs.put_long.Tie as tie
+use Rattle.digits.proofs.Written.{decimal-is, few-digits}
+use Rattle.digits.proofs.put_long.Statement.{statement}
+use Rattle.digits.proofs.put_long.Tie as tie
 
 put-requires : tie.Need-put-requires
 put-requires c κs =

@@ -5,12 +5,12 @@ use native.Mathlib.Nat.{add-zero}
 use native.Mathlib.Omega.{arith}
 use lib.ListN.{length, take, length-set}
 use lib.Seq.{take-length}
-use Rattle.texts.specs.Text.{hexText}
-use Rattle.texts.specs.Writing.{Wrote}
-use Rattle.texts.specs.Laws.{wrote-none}
-use Rattle.texts.proofs.Written.{wrote-next, hex-more}
-use Rattle.texts.proofs.put_hex.Statement.{statement}
-use Rattle.texts.proofs.put_hex.Tie as tie
+use Rattle.digits.specs.Text.{hexText}
+use Rattle.digits.specs.Writing.{Wrote}
+use Rattle.digits.specs.Laws.{wrote-none}
+use Rattle.digits.proofs.Written.{wrote-next, hex-more}
+use Rattle.digits.proofs.put_hex.Statement.{statement}
+use Rattle.digits.proofs.put_hex.Tie as tie
 
 abbrev Inv-loop : tie.InvT-loop
 Inv-loop out₀ at bytes n i₀ out i = (i ≤ length bytes) × Wrote at out₀ (hexText (take i bytes)) (at + 2 * i) out

@@ -1,9 +1,9 @@
 -- One store.
 use borrow.Author.Needs.{needs}
 use native.Mathlib.Omega.{arith}
-use Rattle.texts.proofs.Written.{wrote-one}
-use Rattle.texts.proofs.put_digit.Statement.{statement}
-use Rattle.texts.proofs.put_digit.Tie as tie
+use Rattle.digits.proofs.Written.{wrote-one}
+use Rattle.digits.proofs.put_digit.Statement.{statement}
+use Rattle.digits.proofs.put_digit.Tie as tie
 
 returns : tie.Need-returns
 returns c = rw (c .glyph-of .ensures) (wrote-one _ _ _ (omega arith))
