@@ -23,15 +23,36 @@ AIMS = [
     Aim("write of a page", [("write", 4096, "write")], {"method": 115}),
     Aim("read of 64 KiB", [("read", 65536, "read")], {"method": 107}),
     Aim("write of 64 KiB", [("write", 65536, "write")], {"method": 107}),
+    Aim("touch of a new page of 4,096 bytes", [("touch new", 4096, "touch")], {"checked": 110, "clang_checked": 110}),
+    Aim("touch of a new page of 65,536 bytes", [("touch new", 65536, "touch")], {"checked": 110, "clang_checked": 110}),
+    Aim("write of a new page", [("write new", 4096, "write")], {"method": 110, "clang_method": 110}),
+    Aim("write of a page across two new ones", [("write new across", 4096, "write")], {"method": 110, "clang_method": 110}),
+    Aim("write of 64 KiB of new pages", [("write new", 65536, "write")], {"method": 110, "clang_method": 110}),
+    Aim("write of 1 MiB of new pages", [("write new", 1 << 20, "write")], {"method": 110, "clang_method": 110}),
 ]
-# All actions of the source paper's workload together, with what their caller does, against the method without checks.
+# All actions of the source paper's workload together, with what their caller does, against the method without checks; each read and write copies 4 bytes,
+# and the clearing of new pages is left out.
 WORKLOAD = Aim("all actions of the workload", [], {"method": 200})
-# What memcpy and memmove run depends on the C library and the processor, and is the same for every engine. So that the ratios don't depend on them, a copy
-# of so many bytes counts here with what it takes in glibc 2.36 with AVX2; the workload copies 4 bytes in each read and write.
-COPIES = {1: 15, 4: 14, 4096: 410, 65536: 16 * 410}
-# These miss theirs at least until the find has the processor's own instruction for the highest bit of a word (request W-204): it tests one bit after
-# another.
-WAITS = {"touch of an absent page", "look at an absent page", "mark", "all actions of the workload"}
+# The smallest write that maps a page, at its beginning or inside it, against one memset of the whole page.
+SMALL = Aim("write of 16 bytes into a new page", [("write new", 16, "write"), ("write new inside", 16, "write")], {"plain": 130})
+# What memcpy, memmove and memset run depends on the C library and the processor, and is the same for every engine. So that the ratios don't depend on them,
+# it counts here, by case, as what it takes in glibc 2.36 with AVX2, by vector stores: callgrind counts each byte of the processor's block store as an
+# instruction.
+COPIED, ZEROED = {1: 15, 4: 14, 16: 10, 2048: 220, 4096: 410}, {2048: 126, 4080: 238, 4096: 238, 65536: 3598}
+MOVED = {(call, size): cost for call in ("read", "write") for size, cost in ((1, COPIED[1]), (4096, COPIED[4096]), (65536, 16 * COPIED[4096]))}
+MOVED |= {("write new", pages * 4096): pages * COPIED[4096] for pages in (1, 16, 256)}
+MOVED |= {("touch new", size): ZEROED[size] for size in (4096, 65536)}
+MOVED |= {("write new", 16): COPIED[16] + ZEROED[4080], ("write new inside", 16): COPIED[16] + 2 * ZEROED[2048],
+          ("write new across", 4096): 2 * COPIED[2048] + 2 * ZEROED[2048]}
+# The clearing is left out of what is about the find and the mapping.
+MOVED |= {("touch absent", words): 0 for words in BITS}
+# Why an aim is missed. The find tests one bit after another until it has the processor's own instruction for the highest bit of a word (request W-204); a
+# write makes two for each new page.
+WHY = {name: "the loop over bits, until W-204" for name in (
+    "touch of an absent page", "look at an absent page", "mark", "all actions of the workload", "touch of a new page of 4,096 bytes")}
+WHY |= {name: "two loops over bits a page, until W-204, and more passes than C makes" for name in (
+    "write of a new page", "write of a page across two new ones", "write of 64 KiB of new pages", "write of 1 MiB of new pages")}
+WHY[SMALL.name] = "vector stores clear a page in few instructions: time tells more"
 # A line of a session, against a player of the same scripts by hand in C (bench/lines.sh counts both).
 LINES = Aim("a line of a session", [], {"gcc": 250, "clang": 250})
 
@@ -64,20 +85,30 @@ def inside(counts, what, size, engine, call):
     return counts.get((what, size, engine), {}).get(prefix + call)
 
 
-def copied(functions):
-    """The instructions inside memcpy and memmove, whatever the C library calls the one that it chose."""
-    return sum(cost for name, cost in functions.items() if re.match(r"_*mem(cpy|move)(_|$)", name))
+def zeroed(functions):
+    """The instructions inside memset, whatever the C library calls the one that it chose."""
+    return sum(cost for name, cost in functions.items() if re.match(r"_*memset(_|$)", name))
+
+
+def moved(functions):
+    """The same, and those inside memcpy and memmove."""
+    return zeroed(functions) + sum(cost for name, cost in functions.items() if re.match(r"_*mem(cpy|move)(_|$)", name))
 
 
 def alike(counts, what, size, engine, call):
-    """Instructions of one call, its copies counted as COPIES has them."""
-    own = copied(counts[what, size, engine])
-    return inside(counts, what, size, engine, call) - own + (COPIES.get(size, own) if own else 0)
+    """Instructions of one call, what it copies and clears counted as MOVED has it."""
+    own = moved(counts[what, size, engine])
+    return inside(counts, what, size, engine, call) - own + (MOVED.get((what, size), own) if own else 0)
 
 
 def ratio(counts, aim, engine):
     """The largest ratio of the pager's instructions to an engine's, over an aim's cases."""
     return max(alike(counts, *case[:2], "pager", case[2]) / alike(counts, *case[:2], engine, case[2]) for case in aim.cases)
+
+
+def page_ratio(counts):
+    """The largest ratio of the pager's instructions to those of a memset of a page, over the cases of SMALL."""
+    return max(alike(counts, *case[:2], "pager", case[2]) for case in SMALL.cases) / alike(counts, "touch new", 4096, "plain", "zero")
 
 
 KINDS = ["allocation", "release", "read", "write"]
@@ -99,5 +130,5 @@ def workload_ratio(counts, engine):
         if what.startswith("workload ") and who in ("pager", engine):
             each = actions(counts, who)
             copies = each["read"][0] + each["write"][0]
-            together[who] = sum(total for _, total in each.values()) - copied(functions) + COPIES[4] * copies
+            together[who] = sum(total for _, total in each.values()) - moved(functions) + COPIED[4] * copies
     return together["pager"] / together[engine]

@@ -1,8 +1,10 @@
 /*
  * Holds the hand-written engines to the pager, so that equal work is compared: the same calls by chance, on garbage
- * tables, at sizes of one, two and three index layers. The method must give the pager's every answer, byte and frame.
+ * tables and on RAM that each engine has filled with a byte of its own, at sizes of one, two and three index layers. A new
+ * page is 0 wherever nothing was stored, and each resident page shows the same bytes in all engines. The method must give
+ * the pager's every answer, byte and frame, and leave the pager's RAM.
  * The cleared table doesn't know in which order pages were mapped, so its pool's order is the pager's only where each
- * region's pages are mapped ascending; there it must give every answer too, elsewhere all but frames and bytes.
+ * region's pages are mapped ascending; there it must give every answer too, elsewhere all but frames.
  * Then all of it again with the six calls that have the checks in C in the pager's place; and everything once more with
  * what clang compiled. Last the refusals of these six calls against the pager's own, on heads, lengths and tables by chance.
  */
@@ -13,6 +15,9 @@
 #include <string.h>
 
 enum { PLACES = 8192, FRAMES = 512, PAGE = 256, CALLS = 40000, MOST = 4 * PAGE };
+
+/* The sizes for the refusals; their RAM is the larger one. */
+enum { ODD_FRAMES = 300, ODD_SHIFT = 9, RAM = ODD_FRAMES << ODD_SHIFT };
 
 static uint64_t seed = 1;
 
@@ -48,6 +53,93 @@ static void same(const char *call, uint32_t space, uint32_t page, const answer r
                           (k == CORWYSTAL_OLD || k == CORWYSTAL_NEW || k == CORWYSTAL_RESIDENT || k == CORWYSTAL_AT);
         if (k != r[i].kind || r[PAGER].words != r[i].words || (!free_choice && r[PAGER].value != r[i].value))
             fail(call, &e[i], space, page, r[PAGER], r[i]);
+    }
+}
+
+static void fail_clearing(const char *call, const engine *who, uint32_t space, uint32_t page)
+{
+    fprintf(stderr, "%s of %s left bytes of a new page that aren't 0, at space %u, page %u\n", call, who->name, space, page);
+    exit(1);
+}
+
+static int all_are(uint8_t byte, const uint8_t *at, size_t n)
+{
+    for (size_t k = 0; k < n; k++)
+        if (at[k] != byte)
+            return 0;
+    return 1;
+}
+
+static void touch(uint32_t space, uint32_t page, int ascending)
+{
+    answer r[ENGINES];
+    for (int i = 0; i < ENGINES; i++)
+        r[i] = e[i].touch(e[i].state, space, page);
+    same("touch", space, page, r, ascending);
+    for (int i = 0; i < ENGINES && r[PAGER].kind == CORWYSTAL_NEW; i++)
+        if (!all_are(0, e[i].ram + r[i].value * PAGE, PAGE))
+            fail_clearing("touch", &e[i], space, page);
+}
+
+/* The bytes of a page that a write just mapped, around those of its span. */
+static void cleared_around(uint32_t space, uint32_t page, size_t address, size_t n)
+{
+    size_t from = (size_t)page * PAGE, end = from + PAGE;
+    for (int i = 0; i < ENGINES; i++) {
+        answer at = e[i].translate(e[i].state, space, from);
+        expect(at, CORWYSTAL_AT, "translate of a page just written");
+        const uint8_t *frame = e[i].ram + at.value;
+        if ((address > from && !all_are(0, frame, address - from)) ||
+            (address + n < end && !all_are(0, frame + (address + n - from), end - (address + n))))
+            fail_clearing("write", &e[i], space, page);
+    }
+}
+
+static void write_span(uint32_t space, size_t address, size_t n)
+{
+    answer r[ENGINES];
+    uint8_t is_new[MOST / PAGE + 1];
+    uint32_t first = (uint32_t)(address / PAGE), many = n == 0 ? 0 : (uint32_t)((address + n - 1) / PAGE) - first + 1;
+    for (uint32_t k = 0; k < many; k++)
+        is_new[k] = e[PAGER].look(e[PAGER].state, space, first + k).kind == CORWYSTAL_ABSENT;
+    for (size_t k = 0; k < n; k++)
+        bytes[k] = (uint8_t)draw(256);
+    for (int i = 0; i < ENGINES; i++)
+        r[i] = e[i].write(e[i].state, space, address, bytes, n);
+    same("write", space, first, r, 1);
+    for (uint32_t k = 0; k < many && r[PAGER].kind == CORWYSTAL_DONE; k++)
+        if (is_new[k])
+            cleared_around(space, first + k, address, n);
+}
+
+static void read_span(uint32_t space, size_t address, size_t n)
+{
+    answer r[ENGINES];
+    uint32_t page = (uint32_t)(address / PAGE);
+    for (int i = 0; i < ENGINES; i++)
+        r[i] = e[i].read(e[i].state, space, address, got[i], n);
+    same("read", space, page, r, 1);
+    for (int i = METHOD; i < ENGINES && r[PAGER].kind == CORWYSTAL_BYTES; i++)
+        if (memcmp(got[PAGER], got[i], n) != 0)
+            fail("bytes", &e[i], space, page, r[PAGER], r[i]);
+}
+
+/* What an engine's RAM is full of before its start: no two have the same. */
+static uint8_t filling(int engine) { return (uint8_t)(7 + engine); }
+
+/* Every page shows the same bytes; each frame of the method is the pager's, or neither has mapped it. */
+static void same_ram(void)
+{
+    for (uint32_t space = 0; space < spaces; space++)
+        for (uint32_t page = 0; page < pages; page++)
+            read_span(space, (size_t)page * PAGE, PAGE);
+    for (size_t f = 0; f < FRAMES; f++) {
+        const uint8_t *is = e[PAGER].ram + f * PAGE, *by_hand = e[METHOD].ram + f * PAGE;
+        int untouched = all_are(filling(PAGER), is, PAGE) && all_are(filling(METHOD), by_hand, PAGE);
+        if (!untouched && memcmp(is, by_hand, PAGE) != 0) {
+            fprintf(stderr, "frame %zu of %s and of %s differ; see their writes and what they clear\n", f, e[PAGER].name, e[METHOD].name);
+            exit(1);
+        }
     }
 }
 
@@ -132,9 +224,7 @@ static void play(int ascending)
             r[i] = e[i].release(e[i].state, space, page);
         same("release", space, page, r, 1);
     } else if (which < 8) {
-        for (int i = 0; i < ENGINES; i++)
-            r[i] = e[i].touch(e[i].state, space, page);
-        same("touch", space, page, r, ascending);
+        touch(space, page, ascending);
     } else if (which < 10) {
         for (int i = 0; i < ENGINES; i++)
             r[i] = e[i].look(e[i].state, space, page);
@@ -144,17 +234,9 @@ static void play(int ascending)
             r[i] = e[i].translate(e[i].state, space, address);
         same("translate", space, page, r, ascending);
     } else if (which < 14) {
-        for (int i = 0; i < ENGINES; i++)
-            r[i] = e[i].read(e[i].state, space, address, got[i], n);
-        same("read", space, page, r, ascending);
-        if (memcmp(got[PAGER], got[METHOD], n) != 0 || (ascending && memcmp(got[PAGER], got[CLEARED], n) != 0))
-            fail("bytes", &e[METHOD], space, page, r[PAGER], r[METHOD]);
+        read_span(space, address, n);
     } else {
-        for (size_t k = 0; k < n; k++)
-            bytes[k] = (uint8_t)draw(256);
-        for (int i = 0; i < ENGINES; i++)
-            r[i] = e[i].write(e[i].state, space, address, bytes, n);
-        same("write", space, page, r, ascending);
+        write_span(space, address, n);
     }
 }
 
@@ -177,8 +259,8 @@ static void damage(const corwystal_board *b, size_t n)
     for (size_t t = 0; t < sizeof tables / sizeof *tables; t++)
         for (size_t k = 0; k < n; k++)
             tables[t][k] = odd(draw(draw(2) == 0 ? 4 : (uint32_t)n));
-    for (size_t k = 0; k < 300; k++)
-        b->link[k] = odd(draw(300));
+    for (size_t k = 0; k < ODD_FRAMES; k++)
+        b->link[k] = odd(draw(ODD_FRAMES));
 }
 
 /* Refusals 1 to 3 of the six calls, on any head, lengths and tables, by the pager and by the checks in C of both compilers. */
@@ -189,9 +271,9 @@ static void refusals(void)
     corwystal_board *b = all[PAGER].state, whole = *b;
     size_t n = PLACES / 2;
     for (int k = 0; k < 400000; k++) {
-        corwystal_head h = {odd(4), odd(1024), odd(300), odd(9), odd(draw(300)), odd(draw(300)), odd(draw(300))};
+        corwystal_head h = {odd(4), odd(1024), odd(ODD_FRAMES), odd(ODD_SHIFT), odd(draw(ODD_FRAMES)), odd(draw(ODD_FRAMES)), odd(draw(ODD_FRAMES))};
         uint32_t space = odd(draw(4)), page = odd(draw(1024));
-        size_t address = draw(8) == 0 ? SIZE_MAX - draw(512) : (size_t)page << 9 | draw(512);
+        size_t address = draw(8) == 0 ? SIZE_MAX - draw(512) : (size_t)page << ODD_SHIFT | draw(1 << ODD_SHIFT);
         if (k % 1000 == 0)
             damage(b, n);
         b->index_len = nearly(CORWYSTAL_INDEX_WORDS(n));
@@ -200,7 +282,8 @@ static void refusals(void)
         b->helper_len = nearly(n);
         b->stack_len = nearly(n);
         b->cache_len = nearly(n);
-        b->link_len = nearly(300);
+        b->link_len = nearly(ODD_FRAMES);
+        b->ram_len = nearly(RAM);
         for (size_t c = 0; c < sizeof calls / sizeof *calls; c++) {
             answer r[3];
             for (int i = 0; i < 3; i++) {
@@ -220,7 +303,7 @@ int main(void)
 {
     static const uint32_t sizes[][3] = {{1, 64, 40},   {1, 65, 512},  {3, 21, 30},   {4, 1024, 512},
                                         {1, 4097, 300}, {2, 4096, 512}, {64, 128, 512}};
-    engines_make(all, PLACES, FRAMES, FRAMES * PAGE);
+    engines_make(all, PLACES, FRAMES, RAM);
     size_t calls = 0;
     for (int pass = 0; pass < 8; pass++) {
         int ascending = pass % 2, checks = pass / 2 % 2, clang = pass / 4;
@@ -233,17 +316,14 @@ int main(void)
             frames = sizes[s][2];
             memset(rising, 0, sizeof rising);
             for (int i = 0; i < ENGINES; i++) {
-                memset(e[i].ram, 7, FRAMES * PAGE);
+                memset(e[i].ram, filling(i), FRAMES * PAGE);
                 expect(e[i].start(e[i].state, spaces, pages, frames, PAGE), CORWYSTAL_DONE, "start");
                 for (uint32_t k = 0; ascending && k < spaces; k++)
                     expect(e[i].mark(e[i].state, k, 0), CORWYSTAL_DONE, "mark");
             }
             for (int k = 0; k < CALLS; k++, calls++)
                 play(ascending);
-            if (memcmp(e[PAGER].ram, e[METHOD].ram, frames * PAGE) != 0) {
-                fprintf(stderr, "the RAM of %s and of %s differ; see their writes\n", e[PAGER].name, e[METHOD].name);
-                return 1;
-            }
+            same_ram();
             same_index();
             empty();
             same_index();

@@ -5,6 +5,8 @@
  */
 #include "checked.h"
 
+#include <string.h>
+
 #define SAY(kind, words, value) ((answer){(kind), (words), (value)})
 #define LIKELY(x) __builtin_expect(!!(x), 1)
 
@@ -137,11 +139,13 @@ answer checked_drop(const corwystal_head *head, uint32_t space, uint32_t page, u
 answer checked_touch(corwystal_head *head, uint32_t space, uint32_t page, const uint64_t *index, size_t index_len,
                      uint32_t *count, size_t count_len, uint32_t *table, size_t table_len, uint32_t *helper,
                      size_t helper_len, uint32_t *stack, size_t stack_len, uint32_t *cache, size_t cache_len,
-                     uint32_t *link, size_t link_len)
+                     uint32_t *link, size_t link_len, uint8_t *ram, size_t ram_len)
 {
     size_t tables = lesser(lesser(count_len, table_len), lesser(helper_len, lesser(stack_len, cache_len)));
-    if (!LIKELY(page < head->pages) || !passes(head, space, index_len, tables, link_len))
-        return refusal(head, space, index_len, tables, link_len);
+    /* the frames that link and RAM have room for; a shift beyond its limits is refused whatever they are */
+    size_t frames = lesser(link_len, ram_len >> (head->page_shift & 31));
+    if (!LIKELY(page < head->pages) || !passes(head, space, index_len, tables, frames))
+        return refusal(head, space, index_len, tables, frames);
     size_t t = (size_t)head->spaces * head->pages, lo = (size_t)space * head->pages, p = lo + page;
     if (LIKELY(resident(t, p, count, helper, stack, cache))) {
         uint32_t frame = table[p];
@@ -175,6 +179,7 @@ answer checked_touch(corwystal_head *head, uint32_t space, uint32_t page, const 
     stack[a + n] = (uint32_t)p;
     cache[p] = (uint32_t)a;
     count[a] = (uint32_t)n + 1;
+    memset(ram + ((size_t)frame << head->page_shift), 0, (size_t)1 << head->page_shift);
     return SAY(CORWYSTAL_NEW, f.words, frame);
 }
 

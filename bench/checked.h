@@ -17,7 +17,7 @@ answer checked_drop(const corwystal_head *head, uint32_t space, uint32_t page, u
 answer checked_touch(corwystal_head *head, uint32_t space, uint32_t page, const uint64_t *index, size_t index_len,
                      uint32_t *count, size_t count_len, uint32_t *table, size_t table_len, uint32_t *helper,
                      size_t helper_len, uint32_t *stack, size_t stack_len, uint32_t *cache, size_t cache_len,
-                     uint32_t *link, size_t link_len);
+                     uint32_t *link, size_t link_len, uint8_t *ram, size_t ram_len);
 
 answer checked_look(const corwystal_head *head, uint32_t space, uint32_t page, const uint64_t *index, size_t index_len,
                     const uint32_t *count, size_t count_len, const uint32_t *table, size_t table_len,

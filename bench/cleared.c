@@ -23,6 +23,18 @@ static inline uint32_t map(cleared *c, uint32_t p)
     return frame;
 }
 
+static inline uint8_t *bytes_of(const cleared *c, uint32_t frame) { return c->ram + ((size_t)frame << c->shift); }
+
+/* A new frame's bytes become 0, but for n from an offset on, which are stored over. */
+static inline void clear_around(const cleared *c, uint32_t frame, size_t offset, size_t n)
+{
+    size_t size = (size_t)1 << c->shift, end = offset + n;
+    if (offset != 0)
+        memset(bytes_of(c, frame), 0, offset);
+    if (end != size)
+        memset(bytes_of(c, frame) + end, 0, size - end);
+}
+
 answer cleared_start(cleared *c, uint32_t spaces, uint32_t pages, uint32_t frames, uint32_t page)
 {
     c->pages = pages;
@@ -64,7 +76,9 @@ answer cleared_touch(cleared *c, uint32_t space, uint32_t page)
         return SAY(CORWYSTAL_NO_REGION, f.words, 0);
     if (c->free == 0)
         return SAY(CORWYSTAL_NO_FRAME, f.words, 0);
-    return SAY(CORWYSTAL_NEW, f.words, map(c, p));
+    uint32_t frame = map(c, p);
+    memset(bytes_of(c, frame), 0, (size_t)1 << c->shift);
+    return SAY(CORWYSTAL_NEW, f.words, frame);
 }
 
 answer cleared_look(const cleared *c, uint32_t space, uint32_t page)
@@ -119,7 +133,7 @@ answer cleared_read(const cleared *c, uint32_t space, size_t address, uint8_t *b
     size_t size = (size_t)1 << c->shift, offset = address & (size - 1), left = n;
     for (uint32_t p = first; p <= last; p++) {
         size_t part = size - offset < left ? size - offset : left;
-        memcpy(buffer, c->ram + ((size_t)(c->table[p] - 1) << c->shift) + offset, part);
+        memcpy(buffer, bytes_of(c, c->table[p] - 1) + offset, part);
         buffer += part;
         left -= part;
         offset = 0;
@@ -144,8 +158,14 @@ answer cleared_write(cleared *c, uint32_t space, size_t address, const uint8_t *
     size_t size = (size_t)1 << c->shift, offset = address & (size - 1);
     for (uint32_t p = first; p <= last; p++) {
         size_t part = size - offset < n ? size - offset : n;
-        uint32_t frame = c->table[p] != 0 ? c->table[p] - 1 : map(c, p);
-        memcpy(c->ram + ((size_t)frame << c->shift) + offset, bytes, part);
+        uint32_t frame;
+        if (c->table[p] != 0) {
+            frame = c->table[p] - 1;
+        } else {
+            frame = map(c, p);
+            clear_around(c, frame, offset, part);
+        }
+        memcpy(bytes_of(c, frame) + offset, bytes, part);
         bytes += part;
         n -= part;
         offset = 0;

@@ -15,7 +15,7 @@ answer face_touch(corwystal_board *b, uint32_t space, uint32_t page)
 {
     return checked_touch(&b->head, space, page, b->index, b->index_len, b->count, b->count_len, b->table,
                          b->table_len, b->helper, b->helper_len, b->stack, b->stack_len, b->cache, b->cache_len,
-                         b->link, b->link_len);
+                         b->link, b->link_len, b->ram, b->ram_len);
 }
 
 answer face_look(corwystal_board *b, uint32_t space, uint32_t page)

@@ -43,6 +43,18 @@ static inline uint32_t map(method *m, uint32_t a, uint32_t p)
     return frame;
 }
 
+static inline uint8_t *bytes_of(const method *m, uint32_t frame) { return m->ram + ((size_t)frame << m->shift); }
+
+/* A new frame's bytes become 0, but for n from an offset on, which are stored over. */
+static inline void clear_around(const method *m, uint32_t frame, size_t offset, size_t n)
+{
+    size_t size = (size_t)1 << m->shift, end = offset + n;
+    if (offset != 0)
+        memset(bytes_of(m, frame), 0, offset);
+    if (end != size)
+        memset(bytes_of(m, frame) + end, 0, size - end);
+}
+
 static inline uint32_t pool(const method *m) { return m->many + (m->frames - m->fresh); }
 
 answer method_start(method *m, uint32_t spaces, uint32_t pages, uint32_t frames, uint32_t page)
@@ -90,7 +102,9 @@ answer method_touch(method *m, uint32_t space, uint32_t page)
         return SAY(CORWYSTAL_NO_REGION, f.words, 0);
     if (pool(m) == 0)
         return SAY(CORWYSTAL_NO_FRAME, f.words, 0);
-    return SAY(CORWYSTAL_NEW, f.words, map(m, f.start, p));
+    uint32_t frame = map(m, f.start, p);
+    memset(bytes_of(m, frame), 0, (size_t)1 << m->shift);
+    return SAY(CORWYSTAL_NEW, f.words, frame);
 }
 
 answer method_look(const method *m, uint32_t space, uint32_t page)
@@ -145,7 +159,7 @@ answer method_read(const method *m, uint32_t space, size_t address, uint8_t *buf
     size_t size = (size_t)1 << m->shift, offset = address & (size - 1), left = n;
     for (uint32_t p = first; p <= last; p++) {
         size_t part = size - offset < left ? size - offset : left;
-        memcpy(buffer, m->ram + ((size_t)m->table[p] << m->shift) + offset, part);
+        memcpy(buffer, bytes_of(m, m->table[p]) + offset, part);
         buffer += part;
         left -= part;
         offset = 0;
@@ -170,8 +184,14 @@ answer method_write(method *m, uint32_t space, size_t address, const uint8_t *by
     size_t size = (size_t)1 << m->shift, offset = address & (size - 1);
     for (uint32_t p = first; p <= last; p++) {
         size_t part = size - offset < n ? size - offset : n;
-        uint32_t frame = absent == 0 || resident(m, p) ? m->table[p] : map(m, region(m, lo, p).start, p);
-        memcpy(m->ram + ((size_t)frame << m->shift) + offset, bytes, part);
+        uint32_t frame;
+        if (absent == 0 || resident(m, p)) {
+            frame = m->table[p];
+        } else {
+            frame = map(m, region(m, lo, p).start, p);
+            clear_around(m, frame, offset, part);
+        }
+        memcpy(bytes_of(m, frame) + offset, bytes, part);
         bytes += part;
         n -= part;
         offset = 0;

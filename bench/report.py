@@ -60,6 +60,11 @@ def with_arguments(what, size, call):
     return counts[what, size, "pager"]["corwystal_board_" + call]
 
 
+def clearing(what, size, engine):
+    """What memset ran in it."""
+    return aims.zeroed(counts[what, size, engine])
+
+
 # ---- tables
 
 def number(x):
@@ -91,10 +96,21 @@ COUNTED = ["pager", "with its arguments"] + [named(e) for e in ALL_BY_HAND] + [
 
 
 def counted_row(name, what, size, call):
-    pager = inside(what, size, "pager", call)
-    return ([name, number(pager), number(with_arguments(what, size, call))]
-            + [number(inside(what, size, e, call)) for e in ALL_BY_HAND]
-            + [ratio(pager, inside(what, size, e, call)) for e in both("checked") + both("method")])
+    engines = {e: inside(what, size, e, call) for e in ["pager"] + ALL_BY_HAND}
+    arguments = with_arguments(what, size, call)
+    return row_of(name, engines, arguments)
+
+
+def uncleared_row(name, what, size, call):
+    """The same without what memset ran."""
+    engines = {e: inside(what, size, e, call) - clearing(what, size, e) for e in ["pager"] + ALL_BY_HAND}
+    arguments = with_arguments(what, size, call) - clearing(what, size, "pager")
+    return row_of(name, engines, arguments)
+
+
+def row_of(name, engines, arguments):
+    return ([name, number(engines["pager"]), number(arguments)] + [number(engines[e]) for e in ALL_BY_HAND]
+            + [ratio(engines["pager"], engines[e]) for e in both("checked") + both("method")])
 
 
 def table_a():
@@ -108,7 +124,7 @@ def table_b():
             counted_row("translate, resident", "translate", 0, "translate")]
     for call in ("touch", "look"):
         for words in (1, 3, 5):
-            rows.append(counted_row(f"{call}, absent, {words} index word{'s' * (words > 1)}", f"{call} absent", words, call))
+            rows.append(uncleared_row(f"{call}, absent, {words} index word{'s' * (words > 1)}", f"{call} absent", words, call))
     for call in ("mark", "drop"):
         for words in (1, 2, 3):
             rows.append(counted_row(f"{call}, {words} index word{'s' * (words > 1)} changed", call, words, call))
@@ -125,6 +141,38 @@ def table_b_time():
                         + [f"{case[e] * 1000 / rate:.1f}" for e in engines] + [ratio(case["pager"], case[e]) for e in both("checked")])
     return table(["call", "which page", "pager, ns"] + [named(e) for e in ALL_BY_HAND]
                  + ["pager / " + named(e) for e in both("checked")], rows)
+
+
+# The cases of new pages, as bench/count.c and bench/time.c name them: in words, what, page size, bytes or 0, and the case's size in the counts.
+NEW = [(f"touch, pages of {page:,}", "touch new", page, 0, page) for page in (256, 4096, 65536)] + [
+    (f"write {name}", what, 4096, n, n) for name, what, n in (
+        ("16 bytes", "write new", 16), ("16 bytes inside a page", "write new inside", 16), ("256 bytes", "write new", 256), ("a page", "write new", 4096),
+        ("a page across two", "write new across", 4096), ("64 KiB", "write new", 65536), ("1 MiB", "write new", 1 << 20))]
+
+
+def table_new():
+    rows = [counted_row(name, what, size, what.split()[0]) + [number(counts["touch new", page, "plain"]["plain_zero"])] for name, what, page, _, size in NEW]
+    return table(["new pages"] + COUNTED + ["memset of one page"], rows)
+
+
+def table_new_time():
+    rows = []
+    for name, what, page, n, _ in NEW:
+        row = [name]
+        for where in ("same", "spread"):
+            case = clocked[what.replace(" ", "-"), page, n, where]
+            row += [f"{case['plain'] * 1000 / rate:,.0f}"] + [ratio(case[e], case["plain"]) for e in ENGINES] + [ratio(case["pager"], case["method"])]
+        rows.append(row)
+    head = ["new pages"]
+    for where in ("the same frames", "frames in turn"):
+        head += [f"{where}: memset and memcpy, ns", "pager / these", "C / these", "cleared / these", "pager / C"]
+    return table(head, rows)
+
+
+def small_time(where, engine="pager"):
+    """The time of the smallest write that maps a page, in the slower of its two cases, to that of a memset of the page in the same rounds."""
+    cases = [clocked[what, 4096, 16, where] for what in ("write-new", "write-new-inside")]
+    return max(case[engine] / case["zero"] for case in cases)
 
 
 SIZES = [(1, "1 byte"), (16, "16 bytes"), (4096, "a page"), (65536, "64 KiB"), (1 << 20, "1 MiB")]
@@ -213,8 +261,8 @@ def table_e():
                   "instructions of the slowest"], rows)
 
 
-def met(yes):
-    return "met" if yes else "missed"
+def met(yes, aim=None):
+    return "met" if yes else f"missed; {aims.WHY[aim.name]}" if aim and aim.name in aims.WHY else "missed"
 
 
 def aim_rows(aim, ratio_to):
@@ -222,8 +270,7 @@ def aim_rows(aim, ratio_to):
     rows = []
     for engine, most in aim.most.items():
         is_met = ratio_to(engine) * 100 <= most + 1e-9
-        why = "; the loop over bits, until W-204" if aim.name in aims.WAITS and not is_met else ""
-        rows.append([aim.name, f"at most {most / 100:.2f} x {named(engine)}", f"{math.ceil(ratio_to(engine) * 100 - 1e-9) / 100:.2f}", met(is_met) + why])
+        rows.append([aim.name, f"at most {most / 100:.2f} x {named(engine)}", f"{math.ceil(ratio_to(engine) * 100 - 1e-9) / 100:.2f}", met(is_met, aim)])
     return rows
 
 
@@ -249,9 +296,15 @@ def table_aims():
              met(min(release) == max(release))]]
     for aim in aims.AIMS:
         rows += aim_rows(aim, lambda engine: aims.ratio(counts, aim, engine))
+    small, most = aims.page_ratio(counts), aims.SMALL.most["plain"]
+    rows += [[aims.SMALL.name, f"at most {most / 100:.2f} x a memset of a page", f"{math.ceil(small * 100 - 1e-9) / 100:.2f}",
+              met(small * 100 <= most, aims.SMALL)]]
     rows += aim_rows(aims.WORKLOAD, lambda engine: aims.workload_ratio(kinds_counted, engine))
     rows += [[aims.LINES.name, f"at most {most / 100:.2f} x a player in C, {by}", f"{math.ceil(line_ratio(by) * 100 - 1e-9) / 100:.2f}",
               met(line_ratio(by) * 100 <= most)] for by, most in aims.LINES.most.items()]
+    rows += [[f"time of a {aims.SMALL.name}, {frames}", f"at most {most / 100:.2f} x a memset of a page",
+              f"{small_time(where):.2f}; C without checks {small_time(where, 'method'):.2f}", met(small_time(where) * 100 <= most)]
+             for where, frames in (("spread", "frames in turn"), ("same", "the same frames again and again"))]
     rows += [["time of a copy of a page and more, spans in turn", "at most 1.20 x memcpy", f"{copies['spread']:.2f}", met(copies["spread"] <= 1.2)],
              ["the same, one span again and again (a page then lies in the first cache)", "at most 1.20 x memcpy", f"{copies['same']:.2f}",
               met(copies["same"] <= 1.2)],
@@ -403,7 +456,8 @@ figure_copies()
 
 tables = {"machine": f"Processor: {processor()}. Compilers of the C: {sys.argv[4]}, `-O3`.",
           "aims": table_aims(), "a": table_a(), "b": table_b(), "b-time": table_b_time(), "c": table_c(),
-          "c-time": table_c_time(), "c-pages": table_c_pages(), "d": table_d(), "e": table_e(), "f": table_f()}
+          "c-time": table_c_time(), "c-pages": table_c_pages(), "new": table_new(), "new-time": table_new_time(),
+          "d": table_d(), "e": table_e(), "f": table_f()}
 with open(doc) as f:
     text = f.read()
 for name, made in tables.items():

@@ -2,7 +2,7 @@
  * Times of (b), (c) and (d): each engine in turn, many rounds, so that all meet the same machine. Of one span again and
  * again the least counts, without what only some rounds met; of spans in turn the median, since their caches differ.
  * One line a case: what, page size, bytes, where the page comes from ("same": one span again and again; "spread": spans
- * of 8 MiB in turn), engine, ticks.
+ * of 8 MiB in turn), engine, ticks. New pages are mapped while the clock runs and given back while it doesn't.
  */
 #include "clock.h"
 #include "driver.h"
@@ -11,10 +11,13 @@
 #include <stdlib.h>
 #include <string.h>
 
-/* The spans' and the starts' last engine is a copy or a clearing alone; the calls on a page are made by all that are written. */
-enum { PLACES = 262144, FRAMES = 65536, SPREAD = 8 << 20, PLAIN = ENGINES };
+/*
+ * The spans' and the starts' last engine is a copy or a clearing alone, after which new pages have a memset of all of them;
+ * the calls on a page are made by all that are written.
+ */
+enum { PLACES = 262144, FRAMES = 65536, SPREAD = 8 << 20, PLAIN = ENGINES, ZERO };
 
-static uint8_t *buffer, *plain_ram, *plain_tables;
+static uint8_t *buffer, *plain_ram, *zero_ram, *plain_tables;
 
 static engine e[ALL];
 
@@ -56,7 +59,7 @@ static double typical(int engine, size_t rounds, int spread)
     return (double)ticks[engine][spread ? rounds / 2 : 0];
 }
 
-static const char *name_of(int engine) { return engine == PLAIN ? "plain" : e[engine].name; }
+static const char *name_of(int engine) { return engine == ZERO ? "zero" : engine == PLAIN ? "plain" : e[engine].name; }
 
 static void spans(size_t page, size_t n, int writes, int spread)
 {
@@ -78,6 +81,77 @@ static void spans(size_t page, size_t n, int writes, int spread)
     for (int i = 0; i <= PLAIN; i++)
         printf("%s %zu %zu %s %s %.2f\n", writes ? "write" : "read", page, n, spread ? "spread" : "same", name_of(i),
                typical(i, rounds, spread) / (double)calls);
+}
+
+/* New pages from an address on: where n is 0 one is touched, else n bytes are written from an offset on; or memset and memcpy alone do the same. */
+static inline uint32_t new_span(int engine, size_t page, size_t at, size_t offset, size_t n)
+{
+    if (engine < ENGINES)
+        return n == 0 ? e[engine].touch(e[engine].state, 0, (uint32_t)(at / page)).kind
+                      : e[engine].write(e[engine].state, 0, at + offset, buffer, n).kind;
+    size_t end = offset + n, rest = n == 0 ? page : (page - end % page) % page;
+    if (engine == ZERO) {
+        memset(zero_ram + at, 0, end + rest);
+        return n == 0 ? CORWYSTAL_NEW : CORWYSTAL_DONE;
+    }
+    if (offset != 0)
+        memset(plain_ram + at, 0, offset);
+    if (n != 0)
+        memcpy(plain_ram + at + offset, buffer, n);
+    if (rest != 0)
+        memset(plain_ram + at + end, 0, rest);
+    return n == 0 ? CORWYSTAL_NEW : CORWYSTAL_DONE;
+}
+
+/*
+ * New pages: frames of 64 KiB, at least one, again and again, or those of 8 MiB in turn. They are given back while no clock runs, and
+ * come newest first then, so memset and memcpy alone go downward in every second turn too. Their region has no other pages, so that
+ * the cleared table's walk doesn't fill the caches.
+ */
+static void new_spans(const char *what, size_t page, size_t offset, size_t n, int spread)
+{
+    size_t step = n == 0 ? page : (offset + n + page - 1) / page * page;
+    size_t calls = step >= 65536 ? 1 : 65536 / step, rounds = step >= 1 << 20 ? 300 : 2000;
+    uint32_t kind = n == 0 ? CORWYSTAL_NEW : CORWYSTAL_DONE, end = (uint32_t)((spread ? SPREAD : calls * step) / page);
+    for (int i = 0; i < ENGINES; i++)
+        expect(e[i].mark(e[i].state, 0, end), CORWYSTAL_DONE, "mark");
+    for (size_t r = 0; r < rounds; r++)
+        for (int i = 0; i <= ZERO; i++) {
+            uint32_t differs = 0;
+            size_t at = spread ? r * calls * step % SPREAD : 0, by = step;
+            if (i < ENGINES && at == 0)
+                expect(e[i].release(e[i].state, 0, 0), CORWYSTAL_PAGES, "release");
+            if (i >= ENGINES && spread && r * calls * step / SPREAD % 2 == 1) {
+                at = SPREAD - step - at;
+                by = -step;
+            }
+            uint64_t from = clock_begin();
+            for (size_t k = 0; k < calls; k++, at += by)
+                differs |= new_span(i, page, at, offset, n) ^ kind;
+            ticks[i][r] = clock_end() - from - empty;
+            none_differs(differs, what);
+        }
+    for (int i = 0; i <= ZERO; i++)
+        printf("%s %zu %zu %s %s %.2f\n", what, page, n, spread ? "spread" : "same", name_of(i),
+               typical(i, rounds, spread) / (double)calls);
+    for (int i = 0; i < ENGINES; i++) {
+        expect(e[i].release(e[i].state, 0, 0), CORWYSTAL_PAGES, "release");
+        expect(e[i].drop(e[i].state, 0, end), CORWYSTAL_DONE, "drop");
+    }
+}
+
+static void all_new_spans(size_t page)
+{
+    static const size_t sizes[] = {16, 256, 4096, 65536, 1 << 20};
+    for (int spread = 0; spread < 2; spread++) {
+        new_spans("touch-new", page, 0, 0, spread);
+        if (page != 4096)
+            continue;
+        for (size_t s = 0; s < sizeof sizes / sizeof *sizes; s++)
+            new_spans("write-new", page, 0, sizes[s], spread);
+        new_spans("write-new-inside", page, page / 2, 16, spread);
+        new_spans("write-new-across", page, page / 2, page, spread);
+    }
 }
 
 enum { TOUCH, LOOK, TRANSLATE };
@@ -137,9 +211,11 @@ int main(void)
     engines_make(e, PLACES, FRAMES, ram);
     buffer = aligned_alloc(4096, 1 << 20);
     plain_ram = aligned_alloc(4096, SPREAD + (1 << 20));
+    zero_ram = aligned_alloc(4096, SPREAD + (1 << 20));
     plain_tables = aligned_alloc(4096, 2 << 20);
     memset(buffer, 1, 1 << 20);
     memset(plain_ram, 2, SPREAD + (1 << 20));
+    memset(zero_ram, 2, SPREAD + (1 << 20));
     memset(plain_tables, 3, 2 << 20);
     empty = clock_cost();
     printf("ticks-per-microsecond %.3f\n", clock_rate());
@@ -149,9 +225,11 @@ int main(void)
             size_t frames = ram / pages[p] < FRAMES ? ram / pages[p] : FRAMES;
             expect(e[i].start(e[i].state, 1, PLACES, (uint32_t)frames, (uint32_t)pages[p]), CORWYSTAL_DONE, "start");
             expect(e[i].mark(e[i].state, 0, 0), CORWYSTAL_DONE, "mark");
+        }
+        all_new_spans(pages[p]);
+        for (int i = 0; i < ENGINES; i++)
             for (size_t at = 0; at < SPREAD + (1 << 20); at += 1 << 20)
                 expect(e[i].write(e[i].state, 0, at, buffer, 1 << 20), CORWYSTAL_DONE, "write");
-        }
         for (int call = TOUCH; pages[p] == 4096 && call <= TRANSLATE; call++)
             for (int spread = 0; spread < 2; spread++)
                 calls_on(call, spread);
@@ -162,6 +240,7 @@ int main(void)
     }
     free(buffer);
     free(plain_ram);
+    free(zero_ram);
     free(plain_tables);
     engines_free(e);
     return 0;

@@ -121,7 +121,7 @@ enum {
 
     CORWYSTAL_DONE = 16,     /* start, mark, drop, write */
     CORWYSTAL_OLD = 17,      /* touch: value is the frame; the page was resident */
-    CORWYSTAL_NEW = 18,      /* touch: value is the frame; it was mapped just now */
+    CORWYSTAL_NEW = 18,      /* touch: value is the frame; it was mapped just now and is all zeros */
     CORWYSTAL_RESIDENT = 19, /* look: value is the frame */
     CORWYSTAL_ABSENT = 20,   /* look */
     CORWYSTAL_PAGES = 21,    /* release: value is the number of pages given back */
@@ -182,12 +182,16 @@ CORWYSTAL_USE_ANSWER
 corwystal_answer corwystal_drop(const corwystal_head *head, uint32_t space, uint32_t page, uint64_t *index,
                                 size_t index_len, const uint32_t *count, size_t count_len);
 
-/* The frame of a page, mapped if need be. A new page shows what its frame last held. */
+/*
+ * The frame of a page, mapped if need be. A new page reads as zeros: with what its frame last held, another harbour's
+ * levels would be filed as this gauge's. So the RAM is lent, all of it; that of a resident page stays as it is.
+ */
 CORWYSTAL_USE_ANSWER
 corwystal_answer corwystal_touch(corwystal_head *head, uint32_t space, uint32_t page, const uint64_t *index,
                                  size_t index_len, uint32_t *count, size_t count_len, uint32_t *table,
                                  size_t table_len, uint32_t *helper, size_t helper_len, uint32_t *stack,
-                                 size_t stack_len, uint32_t *cache, size_t cache_len, uint32_t *link, size_t link_len);
+                                 size_t stack_len, uint32_t *cache, size_t cache_len, uint32_t *link, size_t link_len,
+                                 uint8_t *ram, size_t ram_len);
 
 /* Whether a page is resident, and its frame. */
 CORWYSTAL_USE_ANSWER
@@ -196,7 +200,7 @@ corwystal_answer corwystal_look(const corwystal_head *head, uint32_t space, uint
                                 size_t table_len, const uint32_t *helper, size_t helper_len, const uint32_t *stack,
                                 size_t stack_len, const uint32_t *cache, size_t cache_len);
 
-/* Gives back every page of the region that starts at a page, in constant time. The start stays. */
+/* Gives back every page of the region that starts at a page, in constant time. The start stays, and so does the RAM. */
 CORWYSTAL_USE_ANSWER
 corwystal_answer corwystal_release(corwystal_head *head, uint32_t space, uint32_t page, const uint64_t *index,
                                    size_t index_len, uint32_t *count, size_t count_len, const uint32_t *table,
@@ -223,7 +227,7 @@ corwystal_answer corwystal_read(const corwystal_head *head, uint32_t space, size
                                 size_t helper_len, const uint32_t *stack, size_t stack_len, const uint32_t *cache,
                                 size_t cache_len, const uint8_t *ram, size_t ram_len);
 
-/* Stores the bytes from an address on, mapping pages that are absent: all or nothing. */
+/* Stores the bytes from an address on, mapping pages that are absent: all or nothing. The rest of a new page is zeros. */
 CORWYSTAL_USE_ANSWER
 corwystal_answer corwystal_write(corwystal_head *head, uint32_t space, size_t address, const uint8_t *bytes,
                                  size_t bytes_len, const uint64_t *index, size_t index_len, uint32_t *count,

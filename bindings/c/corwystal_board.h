@@ -62,7 +62,7 @@ CORWYSTAL_USE_ANSWER
 static inline corwystal_answer corwystal_board_touch(corwystal_board *b, uint32_t space, uint32_t page) {
     return corwystal_touch(&b->head, space, page, b->index, b->index_len, b->count, b->count_len, b->table, b->table_len,
                            b->helper, b->helper_len, b->stack, b->stack_len, b->cache, b->cache_len, b->link,
-                           b->link_len);
+                           b->link_len, b->ram, b->ram_len);
 }
 
 CORWYSTAL_USE_ANSWER

@@ -175,7 +175,7 @@ pub enum Touched {
         /// Its frame.
         frame: u32,
     },
-    /// The page was mapped just now; it shows what its frame last held.
+    /// The page was mapped just now; it reads as zeros.
     New {
         /// Its frame.
         frame: u32,
@@ -228,7 +228,7 @@ pub struct Memory<'a> {
     pub cache: &'a mut [u32],
     /// The frame after each frame: [`Needs::link`] words.
     pub link: &'a mut [u32],
-    /// The frames: [`Needs::ram`] bytes.
+    /// The frames: [`Needs::ram`] bytes. A frame is cleared when a page is mapped to it, and at no other time.
     pub ram: &'a mut [u8],
 }
 
@@ -269,7 +269,7 @@ impl<'a> Pager<'a> {
         Ok(pager)
     }
 
-    /// Begins anew; the RAM stays as it stands. A refusal leaves the pager as it was.
+    /// Begins anew; the RAM stays as it stands, and no page shows it. A refusal leaves the pager as it was.
     pub fn restart(&mut self, sizes: Sizes) -> Result<(), Refusal> {
         let needs = sizes.needs().ok_or(Refusal::Size)?;
         if !self.memory.holds(&needs) {
@@ -297,12 +297,13 @@ impl<'a> Pager<'a> {
         answer.done()
     }
 
-    /// The frame of a page, mapped if need be.
+    /// The frame of a page, mapped if need be. A new page reads as zeros: with what its frame last held, another harbour's
+    /// levels would be filed as this gauge's.
     pub fn touch(&mut self, space: u32, page: u32) -> Result<Touched, Refused> {
         let m = &mut self.memory;
         let answer = lend!(corwystal_touch(&mut self.head, space, page;
             as_ptr m.index, as_mut_ptr m.count, as_mut_ptr m.table, as_mut_ptr m.helper, as_mut_ptr m.stack,
-            as_mut_ptr m.cache, as_mut_ptr m.link));
+            as_mut_ptr m.cache, as_mut_ptr m.link, as_mut_ptr m.ram));
         let frame = answer.value as u32;
         match answer.kind {
             raw::OLD => Ok(Touched::Old { frame }),
@@ -362,7 +363,7 @@ impl<'a> Pager<'a> {
         Ok(())
     }
 
-    /// Stores the bytes from an address on, mapping pages that are absent: all or nothing.
+    /// Stores the bytes from an address on, mapping pages that are absent: all or nothing. The rest of a new page is zeros.
     pub fn write(&mut self, space: u32, address: usize, bytes: &[u8]) -> Result<(), Refusal> {
         let m = &mut self.memory;
         let answer = lend!(corwystal_write(&mut self.head, space, address;
@@ -512,6 +513,8 @@ mod raw {
             cache_len: usize,
             link: *mut u32,
             link_len: usize,
+            ram: *mut u8,
+            ram_len: usize,
         ) -> Answer;
 
         pub fn corwystal_look(

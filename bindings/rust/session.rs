@@ -41,7 +41,7 @@ fn released(answer: Result<u32, Refusal>) -> String {
 }
 
 fn main() -> Result<(), Refusal> {
-    // Whatever the tables held before: a start prepares index and counts only.
+    // Whatever it all held before: a start prepares index and counts only, and a page is cleared when it is mapped.
     let memory = Memory {
         index: &mut [u64::MAX; index_words(PLACES)],
         count: &mut [7; PLACES],
@@ -50,7 +50,7 @@ fn main() -> Result<(), Refusal> {
         stack: &mut [7; PLACES],
         cache: &mut [7; PLACES],
         link: &mut [7; 3],
-        ram: &mut [0; 3 * 256],
+        ram: &mut [7; 3 * 256],
     };
     let mut pager = Pager::start(memory, SIZES)?;
     println!("ok");

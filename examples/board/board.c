@@ -164,11 +164,12 @@ static void part_arrived(const struct frame *f) {
     if (s->up == s->batch[!s->filling].many) batch_gone(f->gauge);
 }
 
+/* A gauge that has sent nothing yet has a new page, which reads as zeros: the desk can't take another's level for its own. */
 static void tell_desk(void) {
     for (uint8_t g = 0; g < GAUGES; g++) {
         uint8_t bytes[READING];
         must(PAGER(corwystal_board_read(&memory, g, (size_t)LATEST * PAGE, bytes, READING)), CORWYSTAL_BYTES, "read of the latest");
-        frame_give(LINE, 'L', g, (uint16_t)(gauges[g].next - 1), bytes, gauges[g].known ? READING : 0);
+        frame_give(LINE, 'L', g, (uint16_t)(gauges[g].next - 1), bytes, READING);
     }
 }
 
@@ -189,12 +190,13 @@ static _Noreturn void stop(void) {
 }
 
 static void start(void) {
-    static const uint8_t nothing[READING];
+    /* RAM holds anything when the power comes, but an emulator's is zeros: so that the desk would see it, all of it is something else */
+    memset(ram, 0xA5, sizeof ram);
     must(corwystal_board_start(&memory, GAUGES, PAGES, (uint32_t)option("frames", MOST_FRAMES), PAGE), CORWYSTAL_DONE, "start");
     for (uint8_t g = 0; g < GAUGES; g++) {
         for (uint32_t page = 0; page <= LATEST; page += BATCH_PAGES) must(corwystal_board_mark(&memory, g, page), CORWYSTAL_DONE, "mark");
-        /* the latest reading's frame is taken now, for good: storing it is then never refused */
-        must(corwystal_board_write(&memory, g, (size_t)LATEST * PAGE, nothing, READING), CORWYSTAL_DONE, "first write");
+        /* the latest reading's frame is taken now, for good: storing it is then never refused, and until then the desk reads zeros there */
+        must(corwystal_board_touch(&memory, g, LATEST), CORWYSTAL_NEW, "first touch");
     }
 }
 

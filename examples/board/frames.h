@@ -10,7 +10,7 @@
  *   line   B  to the shore: readings of a gauge from `number` on, 16 bytes each
  *          K  to the board: that part has arrived; payload: the part's own checksum (2)
  *          Q  to the board: the desk asks for the latest levels
- *          L  to the desk: the latest reading of a gauge, `number`; no payload if the gauge has sent none since the board started
+ *          L  to the desk: the latest reading of a gauge, `number`; zeros if the gauge has sent none since the board started
  *          F  to the board: the day ends, send all that is left
  *          X  to the board: stop, and say on the console what was done
  *   both   H  from the board: it has just started

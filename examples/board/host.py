@@ -4,7 +4,7 @@ board acknowledged with what went up the line: nothing lost, nothing doubled, no
 
     host.py KERNEL PLAY [--seed N] [--aim] [--options 'more of the kernel\'s command line']
 
-Plays: day     every reading is sent until it is acknowledged; the desk asks for the latest levels at noon
+Plays: day     every reading is sent until it is acknowledged; the desk asks for the latest levels in the morning, when there are none, and at noon
        noise   the same over a bad radio and a bad line: garbage, flipped bits, cut frames, lost answers, both ways
        kill    the board is killed twice while a batch goes up, and starts anew; the gauges keep each reading until they hear that it has gone up, and
                nothing is lost
@@ -318,8 +318,10 @@ class Day:
             return len(self.levels) == GAUGES
         self.until(told, 20, "levels at the desk")
         for g in self.gauges:
-            if self.levels[g.number] != (len(g.made) - 1, g.made[-1]):
+            if g.made and self.levels[g.number] != (len(g.made) - 1, g.made[-1]):
                 self.shore.wrong.append(f"the desk's level of gauge {g.number} is not its latest")
+            if not g.made and self.levels[g.number][1] != bytes(SIZE):
+                self.shore.wrong.append(f"the desk has a level of gauge {g.number}, which has sent none")
 
     def send_all(self):
         """The day's end: the board sends every batch that is left. Asked again, since the question may be lost."""
@@ -347,6 +349,7 @@ class Day:
 
     def play(self):
         self.start()
+        self.ask()
         for i in range(READINGS):
             if self.words.play == "chatty" and 60 <= i < 90:
                 self.line_down(i)

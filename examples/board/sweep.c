@@ -1,6 +1,6 @@
 /*
  * An interrupt at each instruction of each call. Every scene below is a call on memory that other calls have left. It is made
- *   once undisturbed, which gives the answer and the memory that every later time is held to;
+ *   once undisturbed, which gives the answer and the memory that every later time is held to; its RAM is held to what the call should make of garbage;
  *   with a trap before each instruction that leaves everything alone, which tells how many there are, which, and how deep the stack goes;
  *   with such a trap that doesn't;
  *   with the vector registers turned off, so that any use of one is a fault;
@@ -54,10 +54,13 @@ static void ready(corwystal_answer a) {
     leave(1);
 }
 
+static int damaged; /* somebody else has written the memory */
+
 /* A start with so many pages in each space, on tables full of garbage. */
 static void begin(uint32_t spaces, uint32_t pages) {
     size_t places = (size_t)spaces * pages;
     uint32_t *t = now.tables;
+    damaged = 0;
     memset(&now, 0xA5, sizeof now);
     used = (offsetof(struct memory, tables) + 5 * places * sizeof *t + 7) / 8 * 8;
     lent = (corwystal_board){CORWYSTAL_HEAD_INIT, CORWYSTAL_LENT(now.index_words), t, places, t + places, places, t + 2 * places, places,
@@ -124,25 +127,34 @@ static void never_started(void) {
     lent.head = (corwystal_head)CORWYSTAL_HEAD_INIT;
 }
 
+static void short_ram(void) {
+    two_gauges();
+    lent.ram_len--;
+}
+
 /* Memory that somebody else has written: a pool, counts, frames that can't be. */
 static void broken_pool(void) {
     two_gauges();
     lent.head.first = FRAMES;
+    damaged = 1;
 }
 
 static void broken_counts(void) {
     two_gauges();
     lent.count[0] = lent.count[32] = 65;
+    damaged = 1;
 }
 
 static void broken_frames(void) {
     two_gauges();
     for (uint32_t page = 0; page < 3; page++) lent.table[page] = FRAMES;
+    damaged = 1;
 }
 
 static void broken_head(void) {
     two_gauges();
     lent.head.many = FRAMES + 1;
+    damaged = 1;
 }
 
 /* ---- the call */
@@ -185,6 +197,7 @@ static const struct scene {
     {"touch", "without a region", two_gauges, TOUCH, 1, 7, 0, CORWYSTAL_NO_REGION},
     {"touch", "without a start in three layers", no_starts, TOUCH, 0, 4096, 0, CORWYSTAL_NO_REGION},
     {"touch", "outside", two_gauges, TOUCH, 2, 0, 0, CORWYSTAL_NO_SPACE},
+    {"touch", "of a resident page with RAM too short", short_ram, TOUCH, 0, 2, 0, CORWYSTAL_NO_SIZE},
     {"touch", "with a broken pool", broken_pool, TOUCH, 0, 33, 0, CORWYSTAL_NOT_OURS},
     {"touch", "with broken counts", broken_counts, TOUCH, 0, 33, 0, CORWYSTAL_NOT_OURS},
     {"touch", "with broken frames", broken_frames, TOUCH, 0, 1, 0, CORWYSTAL_NOT_OURS},
@@ -218,6 +231,8 @@ static const struct scene {
     {"read", "with broken frames", broken_frames, READ, 0, 0, 16, CORWYSTAL_NOT_OURS},
     {"write", "over two resident pages", two_gauges, WRITE, 0, 2 * PAGE - 8, 16, CORWYSTAL_DONE},
     {"write", "over a resident and an absent page", two_gauges, WRITE, 0, 3 * PAGE - 8, 16, CORWYSTAL_DONE},
+    {"write", "over an absent and a resident page", two_gauges, WRITE, 1, 10 * PAGE - 8, 16, CORWYSTAL_DONE},
+    {"write", "inside an absent page", two_gauges, WRITE, 0, 33 * PAGE + 8, 16, CORWYSTAL_DONE},
     {"write", "over three absent pages", two_gauges, WRITE, 0, 33 * PAGE - 4, PAGE + 8, CORWYSTAL_DONE},
     {"write", "of no byte", two_gauges, WRITE, 0, 64 * PAGE, 0, CORWYSTAL_DONE},
     {"write", "with an empty pool", empty_pool, WRITE, 0, 3 * PAGE - 8, 16, CORWYSTAL_NO_FRAME},
@@ -257,6 +272,48 @@ static corwystal_answer answer_of(const struct scene *s) {
 }
 
 static void make_call(void) { now.answer = answer_of(scene); }
+
+/* ---- the RAM that it should leave: a page that it maps is zeros but for what it stores, and no other byte changes */
+
+enum { MOST_SPAN = sizeof now.bytes / PAGE + 1 };
+static uint32_t span_first, span_pages; /* the pages that a touch or a write may map */
+static int absent[MOST_SPAN];           /* before the call */
+
+static corwystal_answer look_at(uint32_t k) { return corwystal_board_look(&lent, scene->space, span_first + k); }
+
+/* Garbage in every frame, whatever prepared it, and in what is to be stored: no byte of it is 0, and no two frames have the same. */
+static void soil(void) {
+    for (size_t k = 0; k < sizeof now.ram; k++) now.ram[k] = (uint8_t)(1 + k % 251);
+    for (size_t k = 0; k < sizeof now.bytes; k++) now.bytes[k] = (uint8_t)(255 - k % 253);
+}
+
+static void note_absent(void) {
+    size_t at = scene->at, n = scene->n;
+    span_first = (uint32_t)(scene->which == WRITE ? at / PAGE : at);
+    span_pages = scene->which == TOUCH ? 1 : scene->which == WRITE && n ? (uint32_t)((at + n - 1) / PAGE - at / PAGE + 1) : 0;
+    for (uint32_t k = 0; k < span_pages; k++) absent[k] = look_at(k).kind == CORWYSTAL_ABSENT;
+}
+
+static int ram_is_right(void) {
+    static uint8_t ram[sizeof now.ram];
+    uint64_t frames[MOST_SPAN];
+    int accepted = !corwystal_refused(after.answer);
+    if (accepted && damaged) return 1; /* which frame a page has is then not told by a look */
+    memmove(ram, before.ram, sizeof ram);
+    for (uint32_t k = 0; accepted && k < span_pages; k++) {
+        corwystal_answer a = look_at(k);
+        if (a.kind != CORWYSTAL_RESIDENT) return 0;
+        frames[k] = a.value;
+        if (absent[k]) memset(ram + a.value * PAGE, 0, PAGE);
+    }
+    for (size_t k = 0; accepted && scene->which == WRITE && k < scene->n; k++) {
+        size_t x = scene->at + k;
+        ram[frames[x / PAGE - span_first] * PAGE + x % PAGE] = before.bytes[k];
+    }
+    for (size_t k = 0; k < sizeof ram; k++)
+        if (ram[k] != after.ram[k]) return 0;
+    return 1;
+}
 
 /* ---- a call, disturbed, and what became of it */
 
@@ -365,13 +422,19 @@ static int play(const struct scene *s) {
     scene = s;
     wrong = 0;
     s->prepare();
+    soil();
     now.head = lent.head;
     copy(&before, &now);
+    note_absent();
     make_call();
     now.head = lent.head;
     copy(&after, &now);
     if (after.answer.kind != s->kind) {
         say("sweep: %s %s answers %u, not %u\n", s->call, s->how, (uint64_t)after.answer.kind, (uint64_t)s->kind);
+        return 0;
+    }
+    if (!ram_is_right()) {
+        say("sweep: %s %s leaves other RAM than it should\n", s->call, s->how);
         return 0;
     }
     wrecking = 0;

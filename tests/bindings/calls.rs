@@ -10,6 +10,8 @@ const SIZES: Sizes = Sizes {
     page: 256,
 };
 
+const GARBAGE: u8 = 0x5a;
+
 struct Buffers {
     index: Vec<u64>,
     words: [Vec<u32>; 6],
@@ -29,7 +31,7 @@ impl Buffers {
                 table(needs.places),
                 table(needs.link),
             ],
-            ram: vec![0x5a; needs.ram],
+            ram: vec![GARBAGE; needs.ram],
         }
     }
 
@@ -48,6 +50,13 @@ impl Buffers {
     }
 }
 
+// All that a page shows.
+fn page(pager: &Pager<'_>, space: u32, page: usize) -> [u8; 256] {
+    let mut bytes = [GARBAGE; 256];
+    assert_eq!(pager.read(space, page * 256, &mut bytes), Ok(()));
+    bytes
+}
+
 fn main() {
     let needs = SIZES.needs().expect("sizes within their limits");
     assert_eq!(needs.index, index_words(80));
@@ -64,6 +73,12 @@ fn main() {
             Some(Refusal::Size)
         );
     }
+    let mut shorter = Buffers::new(needs);
+    shorter.ram.pop();
+    assert_eq!(
+        Pager::start(shorter.memory(), SIZES).err(),
+        Some(Refusal::Size)
+    );
 
     let mut pager = Pager::start(buffers.memory(), SIZES).expect("a start");
     assert_eq!(
@@ -89,6 +104,7 @@ fn main() {
     assert_eq!(pager.look(0, 9), Err(below));
     assert_eq!(pager.look(0, 12), Ok(Looked::Absent { words: 1 }));
     assert_eq!(pager.touch(0, 12), Ok(Touched::New { frame: 0, words: 1 }));
+    assert_eq!(page(&pager, 0, 12), [0; 256]);
     assert_eq!(pager.touch(0, 12), Ok(Touched::Old { frame: 0 }));
     assert_eq!(pager.look(0, 12), Ok(Looked::Resident { frame: 0 }));
     assert_eq!(pager.mark(0, 20), Err(Refusal::ResidentPages));
@@ -100,7 +116,15 @@ fn main() {
     let mut two = [0; 2];
     assert_eq!(pager.read(1, 255, &mut two), Ok(()));
     assert_eq!(&two, b"ab");
+    // Before and behind what was written, the new pages are zeros.
+    let mut lower = [0; 256];
+    let mut upper = [0; 256];
+    lower[255] = b'a';
+    upper[0] = b'b';
+    assert_eq!(page(&pager, 1, 0), lower);
+    assert_eq!(page(&pager, 1, 1), upper);
     assert_eq!(pager.frame(1).map(|bytes| bytes[255]), Some(b'a'));
+    assert_eq!(pager.frame(3), Some(&[GARBAGE; 256][..]));
     assert_eq!(pager.frame(4), None);
     assert_eq!(pager.read(1, 511, &mut two), Err(Refusal::NotResident));
     assert_eq!(&two, b"ab");
@@ -125,6 +149,16 @@ fn main() {
     assert_eq!(pager.release(1, 0), Ok(2));
     assert_eq!(pager.release(1, 1), Err(Refusal::NoStart));
     assert_eq!(pager.free_count(), Ok(3));
+    // A release leaves the bytes, and no page shows them: neither one mapped by touch nor one mapped by write.
+    assert_eq!(pager.frame(1), Some(&lower[..]));
+    assert_eq!(pager.frame(2), Some(&upper[..]));
+    assert!(matches!(pager.touch(0, 20), Ok(Touched::New { .. })));
+    assert_eq!(page(&pager, 0, 20), [0; 256]);
+    assert_eq!(pager.write(0, 21 * 256 + 9, b"c"), Ok(()));
+    let mut middle = [0; 256];
+    middle[9] = b'c';
+    assert_eq!(page(&pager, 0, 21), middle);
+    assert_eq!(pager.free_count(), Ok(1));
     assert_eq!(pager.drop_start(1, 0), Ok(()));
     for number in 1..=11 {
         let said = REFUSALS[number - 1];

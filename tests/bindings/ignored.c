@@ -15,7 +15,7 @@ void ignore(corwystal_board *b, corwystal_region *records, uint8_t *bytes) {
     corwystal_start(head, 1, 8, 3, 256, LENT(index), LENT(count));
     corwystal_mark(head, 0, 0, LENT(index), LENT(count));
     corwystal_drop(head, 0, 0, LENT(index), LENT(count));
-    corwystal_touch(head, 0, 0, TABLES, LENT(link));
+    corwystal_touch(head, 0, 0, TABLES, LENT(link), LENT(ram));
     corwystal_look(head, 0, 0, TABLES);
     corwystal_release(head, 0, 0, LENT(index), LENT(count), LENT(table), LENT(stack), LENT(link));
     corwystal_free_count(head);

@@ -33,12 +33,12 @@ done
 
 broken() {
     local faults=("writes into the next gauge's space" "says done and stores nothing" "reads one reading late" "leaves a released region's count"
-        "loses a frame") number=0 fault
+        "loses a frame" "leaves in a new page what its frame held" "clears a page that is no new one") number=0 fault
     bindings/library
     for fault in "${faults[@]}"; do
         number=$((number + 1))
         examples/board/build target/bindings/libcorwystal.a "$made/kernel" -DFAULT="$number" "$here/broken.c" \
-            -Wl,--wrap=corwystal_write,--wrap=corwystal_read,--wrap=corwystal_release
+            -Wl,--wrap=corwystal_write,--wrap=corwystal_read,--wrap=corwystal_release,--wrap=corwystal_touch
         python3 examples/board/host.py "$made/kernel" day > "$made/found" && fail "not found: a board that $fault"
         echo "$fault -- $(sed -n 's/^    //p' "$made/found" | head -n 1)"
     done

@@ -11,11 +11,24 @@ sys.dont_write_bytecode = True
 import aims  # noqa: E402
 
 MISSED = {
-    # what, by which engine: held instead               counted on 2026-11-16, and the aim; all four wait for W-204, the find tests one bit after another
-    ("touch of an absent page", "checked"): 469,        # 468.4, aim 125
+    # what, by which engine: held instead               counted on 2026-11-17, and the aim; these wait for W-204, the find tests one bit after another
+    ("touch of an absent page", "checked"): 430,        # 429.4, aim 125
     ("look at an absent page", "checked"): 594,         # 593.5, aim 125
     ("mark", "checked"): 584,                           # 583.2, aim 115
-    ("all actions of the workload", "method"): 334,     # 333.5 of the first 100,000, aim 200
+    ("all actions of the workload", "method"): 323,     # 322.1 of the first 100,000, aim 200
+    ("touch of a new page of 4,096 bytes", "checked"): 150,         # 149.7, aim 110
+    ("touch of a new page of 4,096 bytes", "clang_checked"): 151,   # 150.7, aim 110
+    # two finds a page, in C too; with W-204's instruction, tried unproved on the same day, 137, 132, 124 and 121 of gcc's
+    ("write of a new page", "method"): 199,             # 198.2, aim 110
+    ("write of a new page", "clang_method"): 202,       # 201.5, aim 110
+    ("write of a page across two new ones", "method"): 203,         # 202.5, aim 110
+    ("write of a page across two new ones", "clang_method"): 208,   # 207.4, aim 110
+    ("write of 64 KiB of new pages", "method"): 192,    # 191.4, aim 110
+    ("write of 64 KiB of new pages", "clang_method"): 194,          # 193.6, aim 110
+    ("write of 1 MiB of new pages", "method"): 261,     # 260.1, aim 110
+    ("write of 1 MiB of new pages", "clang_method"): 265,           # 264.2, aim 110
+    # by vector stores a memset of a page is 247 instructions, and C without checks takes 2.00 x these: docs/MEASUREMENTS.md has the times
+    ("write of 16 bytes into a new page", "plain"): 443,            # 442.03, aim 130
 }
 # What is held beside the aims: hundredths of the same work by another engine, and which functions do it.
 BESIDE = [
@@ -24,12 +37,14 @@ BESIDE = [
     ("write", 1 << 20, "corwystal_write", "method", "method_write", 115),
 ]
 RELEASES = (1, 16, 256, 4096, 65536)  # pages: a release costs the same whatever its region
+WHOLE = (4096, 65536, 1 << 20)  # bytes: a write of whole new pages stores each byte once, and clears none
 
 
 def main():
     counts, played = (aims.dumps(folder) for folder in sys.argv[1:3])
     failed, notes, left = [], [], dict(MISSED)
     held = [(aim, engine, most, aims.ratio(counts, aim, engine)) for aim in aims.AIMS for engine, most in aim.most.items()]
+    held += [(aims.SMALL, engine, most, aims.page_ratio(counts)) for engine, most in aims.SMALL.most.items()]
     held += [(aims.WORKLOAD, engine, most, aims.workload_ratio(played, engine)) for engine, most in aims.WORKLOAD.most.items()]
     for aim, engine, most, ratio in held:
         bound = left.pop((aim.name, engine), most)
@@ -48,6 +63,8 @@ def main():
     releases = {aims.inside(counts, "release", pages, "pager", "release") for pages in RELEASES}
     if len(releases) != 1:
         failed.append(f"a release takes {sorted(releases)} instructions, depending on its region's pages: it is to be the same for all")
+    failed += [f"a write of {size} bytes, all of new pages, runs memset, and then stores over what it cleared" for size in WHOLE
+               if aims.zeroed(counts["write new", size, "pager"]) != 0]
     for line in notes + failed:
         print("costs: " + line, file=sys.stderr)
     if failed:

@@ -1,8 +1,9 @@
 #!/usr/bin/env python3
 """Looks through a static library's object code for what a kernel can't have, and tells how much stack each exported call needs and how long it can be.
 
-    inspect.py LIBRARY      the faults, a line each, and status 1; or a line for each exported function: its name, its bytes of stack, and
-                            its instructions at most, or - if it has a loop over pages, regions or bytes
+    inspect.py LIBRARY      the faults, a line each, and status 1; or a line for each exported function: its name, its bytes of stack,
+                            its instructions at most, or - if it has a loop over pages, regions or bytes, and which of memmove and
+                            memset it calls, itself or by what it calls
 
 An interrupt on the stack of what it interrupts writes below the stack pointer; its handler may change every register that it need not save;
 a kernel has no dynamic linker, no C library but memmove and memset, and may call with any stack. So of every function this asks:
@@ -12,9 +13,9 @@ a kernel has no dynamic linker, no C library but memmove and memset, and may cal
     address of the stack; what can't be followed (a computed jump, an aligned or unknown stack pointer) is a fault too. An address of the stack that
     goes through memory or to a callee is not followed there: it is looked at when it is made, and must then be at the stack pointer or above it;
 of each exported one, with all that it calls:
-  - no call of memmove or memset but those of MAY_CALL, so that no head goes through memory by one; and those of memmove copy the caller's bytes only.
-    A copy of a record, such as a head, differs from one of bytes in one of two ways: it goes to or from the function's own stack, or its length is a
-    constant. Both are followed to the call, the constant through registers; either on any path is a fault;
+  - no call of memmove or memset but those of MAY_CALL, so that no head goes through memory by one; and those copy the caller's bytes and clear what
+    it lent only. A copy or a fill of a record, such as a head, differs from these in one of two ways: it goes to or from the function's own stack, or
+    its length is a constant. Both are followed to the call, the constant through registers; either on any path is a fault;
   - no loop, of those of NO_LOOPS: a jump back is one if control can come from its target to it again (others lead to a common end);
 and of the library: no writable data, no thread's or constructors' sections, no relocation but R_X86_64_PLT32, no undefined name but memmove and memset.
 The bytes of stack of a function are those below its caller's stack pointer at the call: its return address, its frame and the deepest of its callees.
@@ -26,7 +27,7 @@ import sys
 
 KERNEL_HAS = {"memmove", "memset"}
 # What an exported function may call of these, itself or by what it calls. All others: nothing.
-MAY_CALL = {"corwystal_start": {"memset"}, "corwystal_read": {"memmove"}, "corwystal_write": {"memmove"}}
+MAY_CALL = {"corwystal_start": {"memset"}, "corwystal_touch": {"memset"}, "corwystal_read": {"memmove"}, "corwystal_write": {"memmove", "memset"}}
 # Exported functions without any loop: constant time, whatever the memory. Touch, look, translate and mark join them when the find has no loop over
 # bits any more (request W-204).
 NO_LOOPS = {"corwystal_release", "corwystal_free_count", "corwystal_drop", "corwystal_sizes"}
@@ -99,7 +100,7 @@ class Walk:
     def __init__(self, function, faults):
         self.f, self.faults = function, faults
         self.calls, self.deepest, self.seen, self.next = [], 0, {}, {}
-        self.records = {}  # address of a call of memmove or memset: why it copies no bytes of the caller's
+        self.records = {}  # address of a call of memmove or memset: why it copies or fills nothing of the caller's
 
     def fault(self, at, what):
         mnemonic, words = self.f.code[at]
@@ -165,10 +166,11 @@ class Walk:
             self.deepest = max(self.deepest, 8 - state["rsp"])
         self.calls.append((target, (0 if jump else 8) - state["rsp"]))
         if target in KERNEL_HAS:
+            what = {"memmove": "a copy", "memset": "a fill"}[target]
             if any(state.get(r) is not None for r in ("rdi", "rsi")):
-                self.records[at] = "to or from the stack"
+                self.records[at] = f"{what} to or from the stack"
             elif "#rdx" in state:
-                self.records[at] = "with a length that is a constant"
+                self.records[at] = f"{what} with a length that is a constant"
         for r in CALL_CHANGES:
             state.pop(r, None)
             state.pop("#" + r, None)
@@ -354,8 +356,8 @@ def copies(name, walks, by_target, faults):
         for at, target in walk.f.reaches.items():
             if target not in by_target and target not in MAY_CALL.get(name, ()):
                 faults.add(f"{name}: a call of {target}, at {f}+{at:#x}")
-            elif target == "memmove" and at in walk.records:
-                faults.add(f"{name}: a copy {walk.records[at]}, so of no caller's bytes, at {f}+{at:#x}")
+            elif at in walk.records:
+                faults.add(f"{name}: {walk.records[at]}, so of nothing that the caller lent, at {f}+{at:#x}")
 
 
 def loops(name, walks, by_target, faults):
@@ -422,7 +424,8 @@ def main():
         print("\n".join(sorted(faults)))
         return 1
     for name in exported:
-        print(name, needs[name], longest_of(name, walks, by_target) or "-")
+        called = {target for f in below(name, walks, by_target) for target in walks[f].f.reaches.values()} & KERNEL_HAS
+        print(name, needs[name], longest_of(name, walks, by_target) or "-", *sorted(called))
     return 0
 
 

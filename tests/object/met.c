@@ -94,8 +94,10 @@ static void never(void) { empty(), memset(&b.head, 0, sizeof b.head); }
 /* The head is not what a call left: a pool that is larger than it can be. */
 static void damaged(void) { pages(), b.head.many = UINT32_MAX; }
 
-/* A buffer is too short. */
+/* A buffer is too short, and the same of the RAM. */
 static void shorter(void) { pages(), b.count_len--; }
+
+static void less_ram(void) { pages(), b.ram_len--; }
 
 /* ---- the situations: call, name, what stands before, the kind of its answer, and the call as it is made */
 
@@ -130,6 +132,7 @@ static void shorter(void) { pages(), b.count_len--; }
     IS(touch, no frame, full, CORWYSTAL_NO_FRAME, corwystal_board_touch(&b, 0, LAST))                                                          \
     IS(touch, never, never, CORWYSTAL_NO_SIZE, corwystal_board_touch(&b, 0, 1))                                                                \
     IS(touch, too short, shorter, CORWYSTAL_NO_SIZE, corwystal_board_touch(&b, 0, 1))                                                          \
+    IS(touch, less RAM, less_ram, CORWYSTAL_NO_SIZE, corwystal_board_touch(&b, 0, 1))                                                          \
     IS(look, resident, pages, CORWYSTAL_RESIDENT, corwystal_board_look(&b, 0, 1))                                                              \
     IS(look, same word, pages, CORWYSTAL_ABSENT, corwystal_board_look(&b, 0, 5))                                                               \
     IS(look, last place, pages, CORWYSTAL_ABSENT, corwystal_board_look(&b, 0, LAST))                                                           \
@@ -164,7 +167,9 @@ static void shorter(void) { pages(), b.count_len--; }
     IS(write, all frames, full, CORWYSTAL_DONE, corwystal_board_write(&b, 0, 0, bytes, SPAN))                                                  \
     IS(write, nothing, full, CORWYSTAL_DONE, corwystal_board_write(&b, 0, 5, bytes, 0))                                                        \
     IS(write, maps a page, pages, CORWYSTAL_DONE, corwystal_board_write(&b, 0, 5 * PAGE, bytes, 1))                                            \
+    IS(write, maps around, pages, CORWYSTAL_DONE, corwystal_board_write(&b, 0, 5 * PAGE + 5, bytes, 1))                                        \
     IS(write, maps the last place, pages, CORWYSTAL_DONE, corwystal_board_write(&b, 0, (size_t)LAST * PAGE, bytes, PAGE))                      \
+    IS(write, clears the last place, pages, CORWYSTAL_DONE, corwystal_board_write(&b, 0, (size_t)LAST * PAGE + 5, bytes, 1))                   \
     IS(write, maps two of three, pages, CORWYSTAL_DONE, corwystal_board_write(&b, 0, 2 * PAGE + 5, bytes, 2 * PAGE))                           \
     IS(write, maps all frames, used, CORWYSTAL_DONE, corwystal_board_write(&b, 0, 0, bytes, SPAN))                                             \
     IS(write, no frame, holes, CORWYSTAL_NO_FRAME, corwystal_board_write(&b, 0, 0, bytes, SPAN))                                               \

@@ -54,9 +54,9 @@ f() {
     named f "$@"
 }
 
-# A call that leaves everything to one function below it, of so many lines: name, lines.
+# A call that leaves everything to one function below it, of so many lines: name, lines. The assembler's own call would get another relocation.
 by_callee() {
-    named "$1" 'sub $8, %rsp' 'call below@PLT' 'add $8, %rsp' 'ret' '.section .text.below, "ax"' 'below:' "${@:2}"
+    named "$1" 'sub $8, %rsp' '.byte 0xe8' '.reloc ., R_X86_64_PLT32, below - 4' '.long 0' 'add $8, %rsp' 'ret' '.section .text.below, "ax"' 'below:' "${@:2}"
 }
 
 bindings/library
@@ -82,14 +82,15 @@ outdated() {
 sed -E 's/^(corwystal_write) [0-9]+/\1 64/' "$made/calls" > "$made/shallow"
 sed -E 's/^(corwystal_release [0-9]+) [0-9]+/\1 9/' "$made/calls" > "$made/short"
 sed -E '/^\| touch /s/[0-9]+ for a resident page/9 for a resident page/' docs/KERNEL.md > "$made/old.md"
+sed -E '/^corwystal_touch /s/ memset$//' "$made/calls" > "$made/unclear"
 outdated "$made/shallow" docs/KERNEL.md 'write, a byte: '
 outdated "$made/short" docs/KERNEL.md 'release, three pages: '
 outdated "$made/calls" "$made/old.md" 'tells other numbers than the library'
+outdated "$made/unclear" docs/KERNEL.md 'touch calls neither memmove nor memset'
 
-# A copy of bytes is a call of memmove, without a frame for the page that the source names.
-for call in read write; do
-    objdump -dr --disassemble="corwystal_$call" "$library" > "$made/code"
-    grep -q 'R_X86_64_PLT32[[:space:]]*memmove' "$made/code" || fail "$call copies without memmove"
+# A copy of bytes is a call of memmove, and a new page is cleared by a call of memset: without a frame for the page that the source names.
+for call in 'read memmove' 'write memmove memset' 'touch memset'; do
+    grep -qE "^corwystal_${call%% *} [0-9]+ [0-9-]+ ${call#* }\$" "$made/calls" || fail "${call%% *} copies or clears without ${call#* }"
 done
 awk '$2 > 1024 { exit 1 }' "$made/calls" || fail "a call has a frame of more than 1,024 bytes"
 
@@ -127,6 +128,7 @@ f 'ret' '.section .init_array, "aw"' '.quad 0' | wrong constructor 'section .ini
 named corwystal_release 'jmp memmove@PLT' | wrong copies 'corwystal_release: a call of memmove'
 named corwystal_look 'jmp memset@PLT' | wrong clears 'corwystal_look: a call of memset'
 by_callee corwystal_touch 'jmp memmove@PLT' | wrong copies_below 'corwystal_touch: a call of memmove, at below'
+by_callee corwystal_translate 'jmp memset@PLT' | wrong clears_below 'corwystal_translate: a call of memset, at below'
 named corwystal_read 'jmp memset@PLT' | wrong read_clears 'corwystal_read: a call of memset'
 named corwystal_write 'jmp memcpy@PLT' | wrong other_copy 'corwystal_write: a call of memcpy'
 named corwystal_read 'sub $40, %rsp' 'mov %rsp, %rdi' 'call memmove@PLT' 'add $40, %rsp' 'ret' | wrong copy_to_the_stack 'a copy to or from the stack'
@@ -135,6 +137,9 @@ named corwystal_write 'sub $40, %rsp' 'lea 8(%rsp), %rax' 'mov %rax, %rsi' 'call
 by_callee corwystal_write 'mov $28, %edx' 'jmp memmove@PLT' | wrong copy_of_a_head 'a copy with a length that is a constant'
 named corwystal_write 'mov $27, %eax' 'inc %eax' 'mov %rax, %rdx' 'jmp memmove@PLT' | wrong constant_by_registers 'a copy with a length that is a constant'
 named corwystal_read 'test %edi, %edi' 'je 1f' 'mov $28, %edx' '1: jmp memmove@PLT' | wrong constant_on_one_path 'a copy with a length that is a constant'
+named corwystal_touch 'sub $40, %rsp' 'mov %rsp, %rdi' 'call memset@PLT' 'add $40, %rsp' 'ret' | wrong fill_of_the_stack 'a fill to or from the stack'
+by_callee corwystal_write 'mov $256, %edx' 'jmp memset@PLT' | wrong fill_of_a_record 'a fill with a length that is a constant'
+named corwystal_start 'mov $28, %edx' 'jmp memset@PLT' | wrong fill_of_a_head 'a fill with a length that is a constant'
 named corwystal_release '1: dec %edi' 'jne 1b' 'ret' | wrong loop 'corwystal_release: a loop, by the jump back to 0x0'
 named corwystal_free_count 'jmp 2f' '1: dec %edi' '2: test %edi, %edi' 'jne 1b' 'ret' | wrong loop_from_its_middle 'corwystal_free_count: a loop'
 named corwystal_drop '1: jmp 1b' | wrong endless 'corwystal_drop: a loop'
@@ -142,6 +147,10 @@ by_callee corwystal_release '1: shr %rdi' 'jne 1b' 'ret' | wrong loop_below 'cor
 named corwystal_release 'jmp 2f' '1: ret' '2: test %edi, %edi' 'je 1b' 'mov $28, %edx' 'jmp 1b' | right jumps_back
 named corwystal_read 'mov $28, %edx' 'mov %r9, %rdx' 'jmp memmove@PLT' | right copies_bytes
 named corwystal_touch '1: dec %edi' 'jne 1b' 'ret' | right may_loop
+by_callee corwystal_touch 'mov $1, %edx' 'shl %cl, %rdx' 'jmp memset@PLT' | right clears_a_page
+grep -qx 'corwystal_touch 24 7 memset' "$made/told" || fail "a call of memset by a callee is not told: $(cat "$made/told")"
+named corwystal_write 'push %rbx' 'mov %r9, %rdx' 'call memset@PLT' 'mov %rbx, %rdx' 'call memmove@PLT' 'pop %rbx' 'ret' | right clears_and_copies
+grep -qx 'corwystal_write 24 7 memmove memset' "$made/told" || fail "calls of both are not told: $(cat "$made/told")"
 
 instructions=$(objdump -d "$library" | grep -cE '^ +[0-9a-f]+:.*	[a-z]')
 echo "object: $(nm "$library" | grep -c ' [tT] ') functions, $instructions instructions: general registers only, nothing below the stack pointer;" \

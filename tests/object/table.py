@@ -1,8 +1,9 @@
 """Holds the table of calls in docs/KERNEL.md to the library: table.py CALLS STACK COUNTS DOCUMENT [write]
 
-CALLS is what inspect.py tells: each call's bytes of stack and instructions at most, read off the object code. STACK is what `met stack` tells, and COUNTS
-a folder of callgrind's dumps of `met count`: the same as measured, in each situation of met.c. Nothing that was measured may be more than what was read
-off. What memmove and memset run isn't counted. With `write` the document gets the table; without, it must have it already.
+CALLS is what inspect.py tells: each call's bytes of stack and instructions at most, read off the object code, and which of memmove and memset it calls.
+STACK is what `met stack` tells, and COUNTS a folder of callgrind's dumps of `met count`: the same as measured, in each situation of met.c. Nothing that was
+measured may be more than what was read off. What memmove and memset run isn't counted: so a call's remark names those that it calls, and no other. With
+`write` the document gets the table; without, it must have it already.
 """
 import os
 import re
@@ -18,13 +19,14 @@ REMARKS = {
     "start": "and a `memset` of 4T bytes of counts and 8 bytes of each index word: too long to hold interrupts off",
     "mark": "{same word} for a page five pages after the last start",
     "drop": "",
-    "touch": "{resident} for a resident page",
+    "touch": "{resident} for a resident page; if it maps, a `memset` of P bytes comes on top",
     "look": "{resident} for a resident page",
     "release": "whatever the region",
     "free_count": "",
     "translate": "{resident} for a resident page",
     "read": "{a byte} for a byte, {all frames each} for each page more, and a `memmove` of the bytes: long ones are too long to hold interrupts off",
-    "write": "{a byte} for a byte, {all frames each} for each page more; for each page that it maps, a touch and a find more",
+    "write": "{a byte} for a byte, {all frames each} for each page more, and a `memmove`; for each new page a touch and a find more, "
+             "and a `memset` of its rest",
     "list": "two finds for each region: too long to hold interrupts off",
     "sizes": "",
 }
@@ -35,7 +37,7 @@ FRAMES = 64  # of met.c
 def read_off(path):
     with open(path) as lines:
         rows = [line.split() for line in lines]
-    return {name.removeprefix("corwystal_"): (int(stack), None if most == "-" else int(most)) for name, stack, most in rows}
+    return {name.removeprefix("corwystal_"): (int(stack), None if most == "-" else int(most), kernels) for name, stack, most, *kernels in rows}
 
 
 def painted(path):
@@ -61,7 +63,9 @@ def main():
         sys.exit(f"object: the library, met.c and table.py have other calls: {sorted(calls)}, {sorted(stack)}, {sorted(counts)}, {sorted(REMARKS)}: "
                  "give met.c its situations and table.py its row")
     wrong = []
-    for call, (deepest, longest) in calls.items():
+    for call, (deepest, longest, kernels) in calls.items():
+        if sorted(set(re.findall(r"`(mem\w+)`", REMARKS[call]))) != kernels:
+            wrong.append(f"object: {call} calls {' and '.join(kernels) or 'neither memmove nor memset'}: its remark in table.py says other: {REMARKS[call]}")
         for situation, used in stack[call].items():
             if used > deepest:
                 wrong.append(f"object: {call}, {situation}: {used} bytes of stack met, and {deepest} read off the object code: see stack_of in inspect.py")
@@ -76,7 +80,7 @@ def main():
 
     lines = ["| " + " | ".join(HEAD) + " |", "|" + "---|" * len(HEAD)]
     for call, remark in REMARKS.items():
-        deepest, longest = calls[call]
+        deepest, longest, _ = calls[call]
         # without a bound the most that was met is only that of the longest span
         cells = [call, f"{deepest:,}", "-" if longest is None else f"{longest:,}", f"{max(stack[call].values()):,}",
                  "-" if longest is None else f"{max(counts[call].values()):,}", re.sub(r"{(.+?)}", lambda m: figure(call, m[1]), remark)]

@@ -1,6 +1,7 @@
 // The plain machine of document 01, for the programs of tests/ that say what the pager must answer.
-// Written from the document alone, whose words stand in quotation marks: a set of starts, for each
-// region a list of pages and frames, the pool as a list, the RAM. No table, no index, no layer.
+// Written from the document alone, whose words stand in quotation marks, and from request W-201 of
+// document 02, by which a new page reads as zeros: a set of starts, for each region a list of pages
+// and frames, the pool as a list, the RAM. No table, no index, no layer.
 #![allow(dead_code)]
 use std::collections::{BTreeMap, BTreeSet, HashMap, VecDeque};
 use std::ops::Range;
@@ -122,16 +123,16 @@ pub struct Call {
 }
 
 impl Ask {
-    // Which call is lent which buffer: the document leaves it open, docs/DECISIONS.md has it.
+    // Which call is lent which buffer: the document leaves it open but for touch's RAM, docs/DECISIONS.md has it.
     pub fn is_lent(&self) -> [u64; 8] {
         match self {
             Ask::Start(..) | Ask::Mark(..) | Ask::Drop(..) => [1, 1, 0, 0, 0, 0, 0, 0],
-            Ask::Touch(..) => [1, 1, 1, 1, 1, 1, 1, 0],
             Ask::Look(..) | Ask::Translate(..) => [1, 1, 1, 1, 1, 1, 0, 0],
             Ask::Release(..) => [1, 1, 1, 0, 1, 0, 1, 0],
             Ask::Free => [0; 8],
             Ask::Read(..) => [1, 1, 1, 1, 1, 1, 0, 1],
-            Ask::Write(..) => [1; 8],
+            // W-201: "1 also when the RAM lent to touch is too short", of a resident page too
+            Ask::Touch(..) | Ask::Write(..) => [1; 8],
             Ask::List(..) => [1, 1, 0, 0, 0, 0, 0, 0],
         }
     }
@@ -296,6 +297,17 @@ impl Machine {
         &self.ram
     }
 
+    // "A frame's bytes are the part of the RAM that starts at frame number times P"
+    pub fn bytes_of(&self, frame: u64) -> Range<usize> {
+        let first = (frame * self.sizes.page) as usize;
+        first..first + self.sizes.page as usize
+    }
+
+    // For those who play it wrong on purpose.
+    pub fn ram_mut(&mut self) -> &mut [u8] {
+        &mut self.ram
+    }
+
     pub fn pool(&self) -> &VecDeque<u64> {
         &self.pool
     }
@@ -381,11 +393,14 @@ impl Machine {
         }
     }
 
-    // "the first frame of the pool is taken, the pair goes to the end of the region's list"
+    // "the first frame of the pool is taken, the pair goes to the end of the region's list"; W-201:
+    // "When touch or write maps a page, all P bytes of its frame are set to 0 before anything is stored"
     fn map(&mut self, start: u64, place: u64) -> Option<u64> {
         let frame = self.pool.pop_front()?;
         self.lists.entry(start).or_default().push((place, frame));
         self.held.insert(place, frame);
+        let bytes = self.bytes_of(frame);
+        self.ram[bytes].fill(0);
         Some(frame)
     }
 
@@ -502,7 +517,7 @@ impl Machine {
         }
     }
 
-    // "touches every page of the span, ascending, then stores. All or nothing"
+    // "touches every page of the span, ascending, then stores. All or nothing": a refused one clears nothing
     fn write(&mut self, space: u64, address: u64, mut bytes: &[u8]) -> Answer {
         let count = bytes.len() as u64;
         if let Err(number) = self.touch_all(space, address, count) {

@@ -39,7 +39,7 @@ const EARLY: &[(&str, &str)] = &[
     ("look 0 0", "no 1 0"),
 ];
 
-// Two spaces of four pages, three frames; then a start that keeps the RAM.
+// Two spaces of four pages, three frames; then starts over what the RAM holds.
 const CALLS: &[(&str, &str)] = &[
     ("start 2 004 3 000000256", "ok"),
     ("free", "free 3"),
@@ -108,7 +108,7 @@ const CALLS: &[(&str, &str)] = &[
     ("list 1", "regions 1 0 4 1"),
     ("release 0 1", "pages 2"),
     ("touch 0 3", "frame 1 new 1"),
-    ("read 0 768 2", "bytes 0b00"),
+    ("read 0 768 2", "bytes 0000"),
     ("mark 0 2", "no 7"),
     ("release 0 1", "pages 1"),
     ("mark 0 2", "ok"),
@@ -131,7 +131,7 @@ const CALLS: &[(&str, &str)] = &[
     ("look 0 63", "absent 1"),
     ("look 0 64", "absent 3"),
     ("touch 0 1023", "frame 0 new 3"),
-    ("read 0 262143 1", "bytes 0a"),
+    ("read 0 262143 1", "bytes 00"),
     ("start 64 16 1 32768", "ok"),
     ("mark 63 15", "ok"),
     ("look 63 15", "absent 1"),
@@ -142,7 +142,7 @@ const CALLS: &[(&str, &str)] = &[
     ("translate 63 524287", "at 32767"),
     ("read 63 524286 3", "no 3"),
     ("read 63 524286 2", "bytes 00ff"),
-    ("read 63 491774 4", "bytes 000a0b00"),
+    ("read 63 491774 4", "bytes 00000000"),
 ];
 
 // Lines that can't be read, before a start and after.
@@ -383,6 +383,92 @@ fn whole_pool() -> Vec<Said> {
     lines
 }
 
+// Bytes by their hex, with how often each is said.
+fn hex(parts: &[(&str, usize)]) -> String {
+    parts
+        .iter()
+        .map(|(byte, many)| byte.repeat(*many))
+        .collect()
+}
+
+// W-201: "all P bytes of its frame are set to 0 before anything is stored". Frames full of bytes are
+// given back, mapped by each call that can, and read whole: two spaces of four pages, three frames.
+fn new_pages() -> Vec<Said> {
+    let full = hex(&[("e7", 256)]);
+    let mut lines = said(&[
+        ("start 2 4 3 256", "ok"),
+        ("mark 0 0", "ok"),
+        ("mark 0 2", "ok"),
+        ("mark 1 1", "ok"),
+    ]);
+    let mut say = |line: &str, answer: &str| lines.push((line.into(), answer.to_string()));
+    let bytes = |parts: &[(&str, usize)]| format!("bytes {}", hex(parts));
+    for address in [0, 256, 512] {
+        say(&format!("write 0 {address} {full}"), "ok");
+    }
+    // neither a touch of a resident page clears it nor a refused write a page of its span
+    say("touch 0 0", "frame 0 old 0");
+    say("write 0 767 0102", "no 8");
+    say("write 1 255 0102", "no 4");
+    for address in [0, 256, 512] {
+        say(&format!("read 0 {address} 256"), &bytes(&[("e7", 256)]));
+    }
+    // nor a write its resident pages
+    say("write 0 255 0102", "ok");
+    say("read 0 0 256", &bytes(&[("e7", 255), ("01", 1)]));
+    say("read 0 256 256", &bytes(&[("02", 1), ("e7", 255)]));
+    // mapped again by a touch, and by a write into a part
+    say("release 0 0", "pages 2");
+    say("touch 0 1", "frame 1 new 1");
+    say("read 0 256 256", &bytes(&[("00", 256)]));
+    say("write 0 10 0304", "ok");
+    say(
+        "read 0 0 256",
+        &bytes(&[("00", 10), ("0304", 1), ("00", 244)]),
+    );
+    say("read 0 512 256", &bytes(&[("e7", 256)]));
+    // a resident page before the new one
+    say(&format!("write 0 256 {full}"), "ok");
+    say("release 0 2", "pages 1");
+    say("write 0 510 05060708", "ok");
+    say("read 0 256 256", &bytes(&[("e7", 254), ("0506", 1)]));
+    say("read 0 512 256", &bytes(&[("0708", 1), ("00", 254)]));
+    // and one behind it
+    say("release 0 0", "pages 2");
+    say("touch 0 1", "frame 0 new 1");
+    say(&format!("write 0 256 {full}"), "ok");
+    say("write 0 254 090a0b0c", "ok");
+    say("read 0 0 256", &bytes(&[("00", 254), ("090a", 1)]));
+    say("read 0 256 256", &bytes(&[("0b0c", 1), ("e7", 254)]));
+    // two new pages, then a whole one; an empty span has none
+    say("release 0 0", "pages 2");
+    say(&format!("write 0 200 {full}"), "ok");
+    say("translate 0 0", "at 256");
+    say("read 0 0 256", &bytes(&[("00", 200), ("e7", 56)]));
+    say("read 0 256 256", &bytes(&[("e7", 200), ("00", 56)]));
+    say("release 0 0", "pages 2");
+    say(&format!("write 0 0 {full}"), "ok");
+    say("read 0 0 256", &bytes(&[("e7", 256)]));
+    say("write 0 300", "ok");
+    say("look 0 1", "absent 1");
+    // later starts, over frames that were full and not given back
+    say(&format!("write 0 256 {full}"), "ok");
+    say(&format!("write 0 512 {full}"), "ok");
+    say("start 1 2 1 512", "ok");
+    say("mark 0 0", "ok");
+    say("touch 0 1", "frame 0 new 1");
+    say("read 0 512 256", &bytes(&[("00", 256)]));
+    say("read 0 768 256", &bytes(&[("00", 256)]));
+    say("start 1 4 3 256", "ok");
+    say("mark 0 0", "ok");
+    say("touch 0 3", "frame 0 new 1");
+    say("write 0 255 0d0e", "ok");
+    say("read 0 0 256", &bytes(&[("00", 255), ("0d", 1)]));
+    say("translate 0 256", "at 512");
+    say("read 0 256 256", &bytes(&[("0e", 1), ("00", 255)]));
+    lines
+}
+
 pub fn corners() -> Vec<Said> {
     let bad = all_bad(&bad_lines());
     let mut lines = said(EARLY);
@@ -391,11 +477,12 @@ pub fn corners() -> Vec<Said> {
     lines.extend(said(CALLS));
     lines.extend(bad);
     lines.extend(said(&[
-        ("read 63 491774 4", "bytes 000a0b00"),
+        ("read 63 524286 2", "bytes 00ff"),
         ("list 63", "regions 1 15 1 1"),
     ]));
     lines.extend(longest_lines());
     lines.extend(whole_pool());
+    lines.extend(new_pages());
     lines.extend(limits());
     lines
 }

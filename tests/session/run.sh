@@ -1,6 +1,7 @@
 #!/usr/bin/env bash
 # Plays the scripts of scripts.rs on the program session_program and on session.rs, the plain machine, and holds their answers to each
-# other byte for byte. `run.sh PROGRAM` tries another program than target/bin/session_program.
+# other byte for byte. `run.sh PROGRAM` tries another program than target/bin/session_program, `run.sh broken` the scripts themselves,
+# on players that are wrong in one way each (wrong.rs).
 set -euo pipefail
 # bytes, not letters: the scripts aren't all text
 export LC_ALL=C
@@ -51,16 +52,47 @@ answers() {
     [ "$status" = 0 ] || fail "kind ${1%-*}, seed ${1##*-}: $2 ended with status $status"
 }
 
+# Each wrong player is found by the lines with answers by hand, and by a script that was drawn.
+broken() {
+    local script names number=0 found
+    rustc -O --edition 2021 --cfg broken --check-cfg 'cfg(broken)' -o "$made/wrong" "$here/session.rs"
+    mapfile -t names < <("$made/wrong" faults)
+    mkdir "$made/player"
+    for script in "$made"/scripts/*.txt; do
+        script=${script##*/}
+        answers "${script%.txt}" independent "$made/session"
+    done
+    for name in "${names[@]}"; do
+        export SESSION_FAULT=$number
+        answers corners-1 player "$made/wrong"
+        cmp -s "$made/player/corners-1.txt" "$made/scripts/corners-1.out" && fail "not found by hand: $name"
+        found=
+        for script in "$made"/scripts/{zeros,starts,bytes}-*.txt; do
+            script=${script##*/}
+            answers "${script%.txt}" player "$made/wrong"
+            cmp -s "$made/player/$script" "$made/independent/$script" || { found=${script%.txt} && break; }
+        done
+        [ -n "$found" ] || fail "not found by a script that was drawn: $name"
+        echo "$name -- $found, line $(first_difference "$made/player/$found.txt" "$made/independent/$found.txt")"
+        number=$((number + 1))
+    done
+    echo "session: ${#names[@]} wrong players found"
+}
+
 # How many answers are of a form.
 count() {
     grep -cxE "$1" "$made/answers" || true
 }
 
-[ -x "$program" ] || fail "there is no program ${program#"$here/../../"}; rt check session_program builds it"
+[ "${1:-}" = broken ] || [ -x "$program" ] || fail "there is no program ${program#"$here/../../"}; rt check session_program builds it"
 mkdir "$made/scripts" "$made/program" "$made/independent"
-rustc -O --edition 2021 -o "$made/session" "$here/session.rs"
+rustc -O --edition 2021 --check-cfg 'cfg(broken)' -o "$made/session" "$here/session.rs"
 rustc -O --edition 2021 -o "$made/write-scripts" "$here/scripts.rs"
 "$made/write-scripts" "$made/scripts"
+if [ "${1:-}" = broken ]; then
+    broken
+    exit
+fi
 # document 01's own session
 cp "$here/session.txt" "$made/scripts/session-1.txt"
 cp "$here/session.out" "$made/scripts/session-1.out"
@@ -103,4 +135,6 @@ for form in 'no '{1,2,3,4,5,6,7,8,10}'( [0-3])?' ok 'bad line' 'frame [0-9]+ new
     known=$((known + many))
 done
 [ "$known" = "$lines" ] || fail "$((lines - known)) answers have no form that document 01 gives"
+# and new pages, read whole
+[ "$(count 'bytes (00){256}')" -gt 100 ] || fail "hardly any page is read that has zeros only"
 echo "session: $scripts scripts, $lines lines agree"

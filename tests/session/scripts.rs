@@ -24,6 +24,7 @@ const KINDS: &[(&str, u64, fn(&mut Script, u64))] = &[
     ("starts", 40, starts),
     ("malformed", 60, malformed),
     ("long", 3, long),
+    ("zeros", 40, zeros),
 ];
 
 // T at most 16, F at most 4: every refusal soon.
@@ -156,7 +157,7 @@ fn order(s: &mut Script, seed: u64) {
     s.empty_pool();
 }
 
-// Several starts, accepted and refused; the RAM stays over each of them.
+// Several starts, accepted and refused; the RAM stays over each of them, and no new page shows it.
 fn starts(s: &mut Script, _: u64) {
     s.too_early(3);
     while s.lines < 380 {
@@ -167,6 +168,32 @@ fn starts(s: &mut Script, _: u64) {
         s.start(sizes);
         s.marks(2);
         s.calls(9, &SPANS);
+    }
+}
+
+// Frames full of bytes go back to the pool or are there at a start; mapped again, they are read whole: a new page has zeros but for
+// what was stored since, a resident one has all of its bytes.
+fn zeros(s: &mut Script, seed: u64) {
+    let page = s.draw.among(&[256, 256, 512, 1_024]);
+    s.stray = 60;
+    while s.lines < 380 {
+        let sizes = Sizes(
+            1 + s.draw.below(2),
+            2 + s.draw.below(8),
+            2 + s.draw.below(4),
+            page,
+        );
+        s.start(sizes);
+        s.marks(3);
+        for _ in 0..1 + seed % 3 {
+            for _ in 0..3 {
+                let near = s.near();
+                s.fill_page(near);
+            }
+            s.release();
+            s.map_some(3);
+            s.read_all();
+        }
     }
 }
 

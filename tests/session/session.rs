@@ -1,10 +1,13 @@
 // The session program of document 01, which says what the program `session_program` must answer: one line for
 // each line of a script. Written from the document alone, whose words stand in quotation marks; it
 // plays the calls on the plain machine, ../plain/plain.rs, and knows no table and no layer.
+// Built for `run.sh broken` it is wrong in one way, wrong.rs.
 use std::io::{BufRead, BufReader, BufWriter, Result, Write};
 
 #[path = "../plain/plain.rs"]
 mod plain;
+#[cfg(broken)]
+mod wrong;
 
 use plain::{Answer, Ask, Call, Machine, Sizes, ALL};
 
@@ -17,6 +20,10 @@ const BYTES: usize = 256;
 
 // "as do a number of more than 9 digits", whatever it starts with
 const DIGITS: usize = 9;
+
+// "no answer since a start depends on the RAM's starting contents": session_program's is 0, and this is not. A wrong one has 0 as
+// well, so that it is found by what the calls leave.
+const OLD: u8 = if cfg!(broken) { 0 } else { 0xA5 };
 
 // ---- a line to a call; none for "a line it can't read"
 
@@ -94,15 +101,27 @@ fn answer(machine: &mut Machine, line: &[u8]) -> String {
         None => "bad line".to_string(),
         // "A start beyond the limits gives `no 1`"
         Some(Ask::Start(sizes)) if is_beyond(&sizes) => Answer::Refused(1, None).line(),
-        Some(ask) => machine.play(&Call { ask, lent: ALL }).line(),
+        Some(ask) => play(machine, &Call { ask, lent: ALL }).line(),
     }
 }
 
+#[cfg(broken)]
+use wrong::play;
+
+#[cfg(not(broken))]
+fn play(machine: &mut Machine, call: &Call) -> Answer {
+    machine.play(call)
+}
+
 fn main() -> Result<()> {
+    #[cfg(broken)]
+    if wrong::is_asked_for_names() {
+        return Ok(());
+    }
     let mut input = BufReader::with_capacity(1 << 16, std::io::stdin().lock());
     let mut output = BufWriter::with_capacity(1 << 16, std::io::stdout().lock());
     // One RAM for the whole session: a start leaves it as it stands.
-    let mut machine = Machine::new(vec![0; RAM as usize]);
+    let mut machine = Machine::new(vec![OLD; RAM as usize]);
     let mut line = Vec::new();
     // The last line may lack its LF; after a last LF there is no line.
     while input.read_until(b'\n', &mut line)? > 0 {

@@ -25,7 +25,7 @@ least() {
 }
 
 [ -x "$program" ] || fail "there is no program ${program#"$here/../../"}; rt check session_program builds it"
-rustc -O --edition 2021 -o "$made/session" "$here/session.rs"
+rustc -O --edition 2021 --check-cfg 'cfg(broken)' -o "$made/session" "$here/session.rs"
 rustc -O --edition 2021 -o "$made/write-scripts" "$here/scripts.rs"
 "$made/write-scripts" --million "$made/million.txt"
 

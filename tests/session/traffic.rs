@@ -353,6 +353,49 @@ impl Script {
         self.wrote(space, address, count);
     }
 
+    // The addresses of a page by which lines can write or read all of it.
+    fn parts(&self, at: Page) -> impl Iterator<Item = u64> {
+        let page = self.left.sizes.3;
+        (at.1 * page..(at.1 + 1) * page).step_by(256)
+    }
+
+    // Every byte of a page is written, and none is 0: whatever is left of them later shows.
+    pub fn fill_page(&mut self, at: Page) {
+        for address in self.parts(at) {
+            let hex: String = (0..256)
+                .map(|_| format!("{:02x}", 1 + self.draw.below(255)))
+                .collect();
+            self.raw(format!("write {} {address} {hex}", at.0).as_bytes());
+            self.wrote(at.0, address, 256);
+        }
+    }
+
+    pub fn read_page(&mut self, at: Page) {
+        for address in self.parts(at) {
+            self.line("read", &[at.0, address, 256]);
+        }
+    }
+
+    // Pages are mapped by each call that can, the writes of few bytes, of many, or over a border.
+    pub fn map_some(&mut self, many: u64) {
+        for _ in 0..many {
+            let near = self.near();
+            if self.draw.once_in(2) {
+                self.line("touch", &[near.0, near.1]);
+                self.left.touch(&[near]);
+            } else {
+                self.write();
+            }
+        }
+    }
+
+    // Every resident page, whole.
+    pub fn read_all(&mut self) {
+        for at in self.left.resident.clone() {
+            self.read_page(at);
+        }
+    }
+
     pub fn wrote(&mut self, space: u64, address: u64, count: u64) {
         if count > 0 {
             let page = self.left.sizes.3;

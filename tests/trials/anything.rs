@@ -1,7 +1,9 @@
 // Memory for trials that are not honest: every buffer as long as it is said to be, to the byte,
 // between inaccessible pages or on the heap for an address checker, and filled with anything.
+use crate::draw::Draw;
 use crate::entrance::{Head, Loan};
-use crate::memory::WIDTHS;
+use crate::garbage::Words;
+use crate::memory::{INDEX, WIDTHS};
 use crate::plain::Lent;
 use crate::watch::{Arena, Wanted, PAGE};
 use std::alloc::{alloc_zeroed, dealloc, Layout};
@@ -119,6 +121,24 @@ impl Anything {
         }
     }
 
+    // The index or a table, and in what is longer than its words anything.
+    pub fn fill_words(&mut self, draw: &mut Draw, part: usize, words: &Words) {
+        let mut bytes: Vec<u8> = match part {
+            INDEX => words
+                .index
+                .iter()
+                .flat_map(|word| word.to_le_bytes())
+                .collect(),
+            _ => {
+                let table = words.tables[part - 1].iter();
+                table.flat_map(|word| word.to_le_bytes()).collect()
+            }
+        };
+        let length = self.bytes(part);
+        bytes.extend(draw.bytes(length.saturating_sub(bytes.len()) as u64));
+        self.fill(part, 0, &bytes[..length]);
+    }
+
     pub fn head(&self) -> Head {
         unsafe { *(self.at(HEAD) as *const Head) }
     }
@@ -173,10 +193,26 @@ impl Anything {
             .collect()
     }
 
+    // A part's bytes now, and as they were remembered.
+    pub fn now(&self, part: usize) -> &[u8] {
+        let (held, lead) = self.held(part);
+        &held[lead..][..self.bytes(part)]
+    }
+
+    pub fn before(&self, part: usize) -> &[u8] {
+        let (_, lead) = self.held(part);
+        &self.before[part][lead..][..self.bytes(part)]
+    }
+
+    // The call's own buffer of so many bytes.
+    pub fn own(&self, bytes: usize) -> &[u8] {
+        let (held, lead) = self.held(OWN);
+        &held[lead + self.own..][..bytes]
+    }
+
     // Whether the first entries of a part are 0.
     pub fn is_zero(&self, part: usize, entries: u64) -> bool {
-        let (held, lead) = self.held(part);
         let bytes = entries as usize * width(part);
-        held[lead..lead + bytes].iter().all(|byte| *byte == 0)
+        self.now(part)[..bytes].iter().all(|byte| *byte == 0)
     }
 }

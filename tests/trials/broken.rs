@@ -1,8 +1,9 @@
 // Entrances that are wrong in one way each, to try the trials on: `run.sh broken` builds the trials over
 // them and demands that every one is found. Each is the library's call, with one thing done amiss.
 use crate::entrance::{ask_library, Answer, Head, Loan};
-use crate::entrance::{ABSENT, BYTES, DONE, FRAMES, NEW, OLD, PAGES, REGIONS, RESIDENT};
+use crate::entrance::{ABSENT, AT, BYTES, DONE, FRAMES, NEW, OLD, PAGES, REGIONS, RESIDENT};
 use crate::plain::{Ask, Sizes};
+use std::ops::Range;
 use std::sync::OnceLock;
 
 const COUNT: usize = 1;
@@ -25,6 +26,9 @@ struct Made<'a> {
     above: u64,
     last: u8,
     links: Vec<u32>,
+    // the frames that a touch or write takes next, with what they held, and those of resident pages that it asks for
+    next: Vec<(usize, Vec<u8>)>,
+    resident: Vec<usize>,
 }
 
 // What is answered instead, and done on the way.
@@ -41,6 +45,7 @@ impl Made<'_> {
             _ => 0,
         };
         let (place, above, last, links) = (place as usize, 0, 0, Vec::new());
+        let (next, resident) = (Vec::new(), Vec::new());
         let mut made = Made {
             ask,
             loan,
@@ -50,6 +55,8 @@ impl Made<'_> {
             above,
             last,
             links,
+            next,
+            resident,
         };
         if let (Some(above), true) = (made.above(), made.is_lent(0)) {
             made.above = unsafe { *above };
@@ -62,11 +69,138 @@ impl Made<'_> {
                 .map(|frame| made.get(LINK, frame))
                 .collect();
         }
+        if let (Some((space, pages)), true) = (made.pages(), made.passes(|_| true)) {
+            let next = made.pool(pages.clone().count()).into_iter();
+            made.next = next
+                .map(|frame| (frame, made.frame(frame).to_vec()))
+                .collect();
+            let looks = pages.map(|page| unsafe { ask_library(&Ask::Look(space, page), loan) });
+            let resident = looks.filter(|look| look.kind == RESIDENT);
+            made.resident = resident.map(|look| look.value as usize).collect();
+        }
         made
     }
 
     fn is_lent(&self, buffer: usize) -> bool {
         self.sizes.needed()[buffer] <= self.loan.lent[buffer]
+    }
+
+    // Whether it is refused neither with 2 or 3 nor with 1, as far as some buffers go.
+    fn passes(&self, counts: fn(usize) -> bool) -> bool {
+        let is_lent = self.ask.is_lent();
+        let is_short = |b: usize| is_lent[b] == 1 && counts(b) && !self.is_lent(b);
+        self.sizes.within_limits()
+            && !(0..8).any(is_short)
+            && self
+                .ask
+                .space()
+                .is_some_and(|space| space < self.sizes.spaces)
+            && self.ask.is_inside(&self.sizes)
+    }
+
+    // ---- the RAM, for touches and writes
+
+    // The space and the pages that a touch or write maps.
+    fn pages(&self) -> Option<(u64, Range<u64>)> {
+        match *self.ask {
+            Ask::Touch(space, page) => Some((space, page..page + 1)),
+            Ask::Write(space, address, ref bytes) if self.passes(|_| true) => {
+                Some((space, self.sizes.span(address, bytes.len() as u64)))
+            }
+            _ => None,
+        }
+    }
+
+    // The first frames of the pool, as far as there are some: linked ones, then those never given.
+    fn pool(&self, many: usize) -> Vec<usize> {
+        let (mut first, mut fresh) = (self.head.first as usize, self.head.fresh as usize);
+        let mut frames = Vec::new();
+        while frames.len() < many {
+            let is_linked = frames.len() < self.head.many as usize;
+            let frame = if is_linked { first } else { fresh };
+            if frame >= self.sizes.frames as usize {
+                break;
+            }
+            if is_linked {
+                first = self.get(LINK, frame) as usize;
+            } else {
+                fresh += 1;
+            }
+            frames.push(frame);
+        }
+        frames
+    }
+
+    // A frame's bytes.
+    fn frame(&self, frame: usize) -> &mut [u8] {
+        let page = self.sizes.page as usize;
+        unsafe { std::slice::from_raw_parts_mut(self.loan.at[RAM].add(frame * page), page) }
+    }
+
+    // The frames that were taken, with what they held.
+    fn taken(&self) -> &[(usize, Vec<u8>)] {
+        let left = |h: &Head| u64::from(h.many) + u64::from(h.frames.saturating_sub(h.fresh));
+        let now = unsafe { *self.loan.head };
+        let taken = left(&self.head).saturating_sub(left(&now)) as usize;
+        &self.next[..taken.min(self.next.len())]
+    }
+
+    // Stores a write's bytes once more, where translate says.
+    fn store(&self) {
+        let Ask::Write(space, address, bytes) = self.ask else {
+            return;
+        };
+        let mut stored = 0;
+        while stored < bytes.len() {
+            let at = address + stored as u64;
+            let here = unsafe { ask_library(&Ask::Translate(*space, at), self.loan) };
+            let many = (self.sizes.page - at % self.sizes.page) as usize;
+            let part = &bytes[stored..bytes.len().min(stored + many)];
+            if here.kind == AT {
+                let to = unsafe { self.loan.at[RAM].add(here.value as usize) };
+                unsafe { std::ptr::copy_nonoverlapping(part.as_ptr(), to, part.len()) };
+            }
+            stored += part.len();
+        }
+    }
+
+    // Of each frame that was taken some bytes are as they were, but for what a write has stored.
+    fn leave(&self, some: impl Fn(usize) -> Range<usize>) {
+        for (k, (frame, held)) in self.taken().iter().enumerate() {
+            let some = some(k);
+            self.frame(*frame)[some.clone()].copy_from_slice(&held[some]);
+        }
+        self.store();
+    }
+
+    // Where a write's span begins in its first page, and ends in its last.
+    fn ends(&self) -> (usize, usize) {
+        match self.ask {
+            Ask::Write(_, address, bytes) if !bytes.is_empty() => {
+                let last = address + bytes.len() as u64 - 1;
+                let [first, last] = [*address, last].map(|at| (at % self.sizes.page) as usize);
+                (first, last + 1)
+            }
+            _ => (0, 0),
+        }
+    }
+
+    // Asks the library again, with all of the RAM that is needed.
+    fn with_ram(&self) -> Answer {
+        let mut lent = self.loan.lent;
+        lent[RAM] = self.sizes.needed()[RAM];
+        let Loan { head, at, own, .. } = *self.loan;
+        unsafe {
+            ask_library(
+                self.ask,
+                &Loan {
+                    head,
+                    at,
+                    lent,
+                    own,
+                },
+            )
+        }
     }
 
     fn above(&self) -> Option<*mut u64> {
@@ -288,14 +422,17 @@ const FAULTS: &[(&str, Fault)] = &[
         }
         answer
     }),
-    ("free counts frames that there are not", |m, answer| match m.ask {
-        Ask::Free if answer.kind == 9 && m.head.fresh <= m.head.frames => Answer {
-            kind: FRAMES,
-            value: u64::from(m.head.many) + u64::from(m.head.frames - m.head.fresh),
-            ..answer
+    (
+        "free counts frames that there are not",
+        |m, answer| match m.ask {
+            Ask::Free if answer.kind == 9 && m.head.fresh <= m.head.frames => Answer {
+                kind: FRAMES,
+                value: u64::from(m.head.many) + u64::from(m.head.frames - m.head.fresh),
+                ..answer
+            },
+            _ => answer,
         },
-        _ => answer,
-    }),
+    ),
     // ---- translate, read, write and list
     (
         "translate has 15 bits of a page of 65,536 bytes",
@@ -377,6 +514,190 @@ const FAULTS: &[(&str, Fault)] = &[
             refusal(11)
         }
         _ => answer,
+    }),
+    // ---- "A new page must read as zeros"; those that leave an old byte show in two runs too
+    ("touch leaves the old bytes", |m, answer| {
+        if answer.kind == NEW {
+            m.leave(|_| 0..m.sizes.page as usize);
+        }
+        answer
+    }),
+    ("touch leaves the last old byte", |m, answer| {
+        if answer.kind == NEW {
+            let page = m.sizes.page as usize;
+            m.leave(|_| page - 1..page);
+        }
+        answer
+    }),
+    (
+        "touch leaves the old bytes behind the first 256",
+        |m, answer| {
+            if answer.kind == NEW {
+                m.leave(|_| 256..m.sizes.page as usize);
+            }
+            answer
+        },
+    ),
+    (
+        "touch leaves the old bytes of a frame never given",
+        |m, answer| {
+            if answer.kind == NEW && m.head.many == 0 {
+                m.leave(|_| 0..m.sizes.page as usize);
+            }
+            answer
+        },
+    ),
+    ("touch clears no frame that was given back", |m, answer| {
+        if answer.kind == NEW && m.head.many > 0 {
+            m.leave(|_| 0..m.sizes.page as usize);
+        }
+        answer
+    }),
+    (
+        "touch leaves the old bytes and clears the next frame",
+        |m, answer| {
+            if answer.kind == NEW && answer.value + 1 < m.sizes.frames {
+                m.leave(|_| 0..m.sizes.page as usize);
+                m.frame(answer.value as usize + 1).fill(0);
+            }
+            answer
+        },
+    ),
+    ("touch clears a byte more", |m, answer| {
+        if answer.kind == NEW && answer.value + 1 < m.sizes.frames {
+            m.frame(answer.value as usize + 1)[0] = 0;
+        }
+        answer
+    }),
+    ("touch clears a byte of the RAM's excess", |m, answer| {
+        let is_last = answer.kind == NEW && answer.value + 1 == m.sizes.frames;
+        if is_last && m.has_excess(RAM) {
+            let end = m.sizes.needed()[RAM] as usize;
+            unsafe { m.loan.at[RAM].add(end).write_volatile(0) };
+        }
+        answer
+    }),
+    ("touch of a resident page clears it", |m, answer| {
+        if answer.kind == OLD {
+            m.frame(answer.value as usize).fill(0);
+        }
+        answer
+    }),
+    ("touch clears a frame and is refused", |m, answer| {
+        if let (Ask::Touch(..), 4, Some((frame, _))) = (m.ask, answer.kind, m.next.first()) {
+            m.frame(*frame).fill(0);
+        }
+        answer
+    }),
+    (
+        "touch doesn't ask how long the RAM is",
+        |m, answer| match m.ask {
+            Ask::Touch(..) if answer.kind == 1 && m.passes(|b| b != RAM) => m.with_ram(),
+            _ => answer,
+        },
+    ),
+    (
+        "touch of a resident page takes any RAM",
+        |m, answer| match *m.ask {
+            Ask::Touch(space, page) if answer.kind == 1 && m.passes(|b| b != RAM) => {
+                let look = unsafe { ask_library(&Ask::Look(space, page), m.loan) };
+                let kind = if look.kind == RESIDENT {
+                    OLD
+                } else {
+                    return answer;
+                };
+                Answer { kind, ..look }
+            }
+            _ => answer,
+        },
+    ),
+    (
+        "touch answers 3 before it asks for the RAM",
+        |m, answer| match *m.ask {
+            Ask::Touch(space, page) if answer.kind == 1 && m.sizes.within_limits() => {
+                let is_short = (0..RAM).any(|b| !m.is_lent(b));
+                let is_three = space < m.sizes.spaces && page >= m.sizes.pages && !is_short;
+                if is_three {
+                    refusal(3)
+                } else {
+                    answer
+                }
+            }
+            _ => answer,
+        },
+    ),
+    ("write leaves the old bytes", |m, answer| {
+        if let (Ask::Write(..), DONE) = (m.ask, answer.kind) {
+            m.leave(|_| 0..m.sizes.page as usize);
+        }
+        answer
+    }),
+    ("write leaves the old bytes before its span", |m, answer| {
+        if let (Ask::Write(..), DONE) = (m.ask, answer.kind) {
+            m.leave(|k| 0..if k == 0 { m.ends().0 } else { 0 });
+        }
+        answer
+    }),
+    ("write leaves the old bytes behind its span", |m, answer| {
+        if let (Ask::Write(..), DONE) = (m.ask, answer.kind) {
+            let (last, page) = (m.taken().len(), m.sizes.page as usize);
+            m.leave(|k| {
+                if k + 1 == last {
+                    m.ends().1..page
+                } else {
+                    page..page
+                }
+            });
+        }
+        answer
+    }),
+    ("write leaves the last old byte", |m, answer| {
+        if let (Ask::Write(..), DONE) = (m.ask, answer.kind) {
+            let page = m.sizes.page as usize;
+            m.leave(|_| page - 1..page);
+        }
+        answer
+    }),
+    ("write clears after it has stored", |m, answer| {
+        if let (Ask::Write(..), DONE) = (m.ask, answer.kind) {
+            m.taken()
+                .iter()
+                .for_each(|(frame, _)| m.frame(*frame).fill(0));
+        }
+        answer
+    }),
+    ("write clears a resident page of its span", |m, answer| {
+        if let (Ask::Write(..), DONE, Some(frame)) = (m.ask, answer.kind, m.resident.last()) {
+            m.frame(*frame).fill(0);
+            m.store();
+        }
+        answer
+    }),
+    (
+        "write that maps clears a resident page of its span",
+        |m, answer| {
+            if let (Ask::Write(..), DONE, Some(frame)) = (m.ask, answer.kind, m.resident.first()) {
+                if !m.taken().is_empty() {
+                    m.frame(*frame).fill(0);
+                    m.store();
+                }
+            }
+            answer
+        },
+    ),
+    ("write clears a frame and is refused", |m, answer| {
+        if let (Ask::Write(..), 8, Some((frame, _))) = (m.ask, answer.kind, m.next.first()) {
+            m.frame(*frame).fill(0);
+        }
+        answer
+    }),
+    ("write that maps nothing clears a frame", |m, answer| {
+        if let (Ask::Write(..), DONE, Some((frame, _))) = (m.ask, answer.kind, m.next.first()) {
+            if m.taken().is_empty() {
+                m.frame(*frame).fill(0);
+            }
+        }
+        answer
     }),
 ];
 

@@ -1,12 +1,67 @@
 // Which of the cases that must come about an honest call was.
-use crate::entrance::{Answer, BYTES, DONE, PAGES, REGIONS};
+use crate::entrance::{Answer, BYTES, DONE, NEW, PAGES, REGIONS};
 use crate::honest::Trial;
-use crate::plain::{Ask, Call};
-use crate::tally::Case;
+use crate::plain::{Ask, Call, Machine};
+use crate::tally::{lacks_ram_alone, Case};
+
+// Where bytes other than 0 stood before a touch or write, so that it shows what is cleared and what is not.
+#[derive(Default)]
+pub struct Old {
+    // at both ends of the frame that is next in the pool
+    ends: bool,
+    // in a new page of the span, before and behind the span
+    before: bool,
+    behind: bool,
+    // in a resident page of the span, beside the span
+    beside: bool,
+}
+
+// The frame of a page of a span, and whether it is still to be mapped, as the next ones of the pool one after another.
+fn frames(machine: &Machine, space: u64, pages: std::ops::Range<u64>) -> Option<Vec<(u64, bool)>> {
+    let size = machine.sizes().page;
+    let mut pool = machine.pool().iter();
+    let frame = |page: u64| match machine.parts(space, page * size, size) {
+        Ok(parts) => Some((parts[0].start as u64 / size, false)),
+        Err(10) => pool.next().map(|frame| (*frame, true)),
+        Err(_) => None,
+    };
+    pages.map(frame).collect()
+}
 
 impl Trial<'_> {
+    // Before a call.
+    pub fn old(&self, call: &Call) -> Old {
+        let (machine, sizes) = (&self.machine, self.machine.sizes());
+        let mut old = Old::default();
+        let Ok(()) = call.check(&sizes) else {
+            return old;
+        };
+        if let (Ask::Touch(..) | Ask::Write(..), Some(next)) = (&call.ask, machine.pool().front()) {
+            let bytes = &machine.ram()[machine.bytes_of(*next)];
+            old.ends = bytes[0] != 0 && bytes[bytes.len() - 1] != 0;
+        }
+        let (space, address, bytes) = match &call.ask {
+            Ask::Write(space, address, bytes) if !bytes.is_empty() => (space, address, bytes),
+            _ => return old,
+        };
+        let (first, end) = (address % sizes.page, address + bytes.len() as u64);
+        let span = sizes.span(*address, bytes.len() as u64);
+        let rest = span.end * sizes.page - end;
+        let frames = frames(machine, *space, span).unwrap_or_default();
+        let is_old = |bytes: &[u8]| bytes.iter().any(|byte| *byte != 0);
+        if let (Some((one, is_new)), Some((last, is_last_new))) = (frames.first(), frames.last()) {
+            let before = is_old(&machine.ram()[machine.bytes_of(*one)][..first as usize]);
+            let last = &machine.ram()[machine.bytes_of(*last)];
+            let behind = is_old(&last[last.len() - rest as usize..]);
+            old.before = *is_new && before;
+            old.behind = *is_last_new && behind;
+            old.beside = !is_new && before || !is_last_new && behind;
+        }
+        old
+    }
+
     // After a call: the frames in the pool before it are known, all else of a refused call is as it was.
-    pub fn note(&mut self, call: &Call, answer: &Answer, pool: u64) {
+    pub fn note(&mut self, call: &Call, answer: &Answer, pool: u64, old: &Old) {
         let (machine, kind) = (&self.machine, answer.kind);
         let sizes = machine.sizes();
         let end = sizes.space_bytes();
@@ -33,9 +88,19 @@ impl Trial<'_> {
                     is_resident(*space, *page),
                 );
             }
-            Ask::Touch(..) => {
+            Ask::Touch(space, page) => {
                 cases.case(Case::TouchedOutsideWithoutFrames, kind == 4 && pool == 0);
                 cases.case(Case::NoFrameOf65536, kind == 8 && sizes.frames == 65_536);
+                cases.case(Case::TouchedOverOldBytes, kind == NEW && old.ends);
+                cases.case(
+                    Case::MappedOverOldBytesAfterALaterStart,
+                    kind == NEW && old.ends && self.starts > 1,
+                );
+                let is_resident = || machine.parts(*space, page * sizes.page, 1).is_ok();
+                cases.case(
+                    Case::ResidentPageTouchedWithoutItsRam,
+                    kind == 1 && lacks_ram_alone(call, &sizes) && is_resident(),
+                );
             }
             Ask::Release(..) if kind == PAGES => {
                 cases.case(Case::EmptyRegionReleased, answer.value == 0);
@@ -71,6 +136,13 @@ impl Trial<'_> {
                     is_done && new > 1 && new == pool,
                 );
                 cases.case(Case::TooFewFramesForAWrite, kind == 8 && pool > 0);
+                cases.case(Case::WroteBehindOldBytes, is_done && old.before);
+                cases.case(Case::WroteBeforeOldBytes, is_done && old.behind);
+                cases.case(
+                    Case::WroteBesideOldBytesAndMapped,
+                    is_done && old.beside && new > 0,
+                );
+                cases.case(Case::RefusedWriteWithOldBytesToClear, kind == 8 && old.ends);
                 cases.case(
                     Case::EmptyWriteAtTheEnd,
                     is_done && count == 0 && *address == end,

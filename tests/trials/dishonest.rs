@@ -7,7 +7,7 @@ use crate::entrance::{self, Answer, Head};
 use crate::garbage::KINDS;
 use crate::memory::{COUNT, INDEX, LINK, NAMES, RAM};
 use crate::plain::{Ask, Call, Lent, Sizes};
-use crate::tally::{line, which, ANSWERS};
+use crate::tally::{lacks_ram_alone, line, which, ANSWERS};
 use crate::traffic::favourites;
 use crate::watch;
 
@@ -18,6 +18,9 @@ pub struct Count {
     pub nines: u64,
     // by call: refused with 1 to 3, and got past them
     pub outcomes: [[u64; 2]; 11],
+    // touches and writes that cleared bytes other than 0, and touches refused for the RAM alone
+    pub cleared: [u64; 2],
+    pub short: u64,
 }
 
 // How large a round's memory is; tiny is for an address checker.
@@ -125,21 +128,7 @@ impl Round {
         let words = kinds.map(|kind| kind.words(draw, &self.sizes, &starts));
         for part in 0..RAM {
             let words = &words[usize::from(draw.once_in(4))];
-            let mut bytes: Vec<u8> = match part {
-                INDEX => words
-                    .index
-                    .iter()
-                    .flat_map(|word| word.to_le_bytes())
-                    .collect(),
-                _ => words.tables[part - 1]
-                    .iter()
-                    .flat_map(|word| word.to_le_bytes())
-                    .collect(),
-            };
-            let length = self.memory.bytes(part);
-            let more = draw.bytes(length.saturating_sub(bytes.len()) as u64);
-            bytes.extend(more);
-            self.memory.fill(part, 0, &bytes[..length]);
+            self.memory.fill_words(draw, part, words);
         }
         let ram = draw.bytes(self.memory.bytes(RAM) as u64);
         self.memory.fill(RAM, 0, &ram);
@@ -187,14 +176,22 @@ impl Round {
         head
     }
 
-    // One word of anything, another head, or a small step of one of its pool's numbers.
+    // One word of anything, some bytes of the RAM, or another head.
     fn disturb(&mut self) {
-        let part = self.draw.below(9) as usize;
-        let entries = if part < RAM {
+        let part = self.draw.below(10) as usize;
+        let entries = if part <= RAM {
             self.memory.lent[part]
         } else {
             0
         };
+        // where zeros have come other bytes come again
+        if part == RAM && entries > 0 {
+            let first = self.draw.below(entries);
+            let count = self.draw.below(3 * self.sizes.page).min(entries - first);
+            let bytes = self.draw.bytes(count);
+            self.memory.fill(RAM, first as usize, &bytes);
+            return;
+        }
         if entries == 0 {
             let head = self.head();
             self.memory.set_head(head);
@@ -307,7 +304,23 @@ impl Round {
         count.calls += 1;
         count.nines += u64::from(answer.kind == 9);
         count.outcomes[which(&call.ask)][usize::from(call.check(&before.sizes()).is_ok())] += 1;
+        self.count_clearing(&call, &before, &answer, count);
         Ok(())
+    }
+
+    fn count_clearing(&self, call: &Call, before: &Head, answer: &Answer, count: &mut Count) {
+        match (&call.ask, answer.kind) {
+            (Ask::Touch(..), 1) => {
+                count.short += u64::from(lacks_ram_alone(call, &before.sizes()));
+            }
+            (Ask::Touch(..), entrance::NEW) => {
+                count.cleared[0] += u64::from(!self.memory.changed(RAM).is_empty());
+            }
+            (Ask::Write(_, _, bytes), entrance::DONE) if self.mapped(before) > Some(0) => {
+                count.cleared[1] += u64::from(self.memory.changed(RAM).len() > bytes.len());
+            }
+            _ => {}
+        }
     }
 
     fn tell(&self, call: &Call, head: &Head) -> String {
@@ -416,6 +429,12 @@ impl Round {
                 if self.mapped(before) != Some(1) {
                     return Err("and took not one frame".to_string());
                 }
+                most[RAM] = sizes.page as usize;
+                if self.cost(&before.sizes(), &[answer.value]) != 0 {
+                    return Err(
+                        "and the RAM is not as it was but for that frame, cleared".to_string()
+                    );
+                }
             }
             Ask::Release(..) => (most[COUNT], most[LINK], most[HEAD]) = (1, 1, 7),
             Ask::Read(..) => (most[OWN], needed[OWN]) = (own, own),
@@ -426,8 +445,15 @@ impl Round {
                     return Err("and took other frames than its pages may need".to_string());
                 }
                 most[COUNT..=LINK].fill(mapped as usize);
-                most[RAM] = bytes.len();
+                most[RAM] = bytes.len() + mapped as usize * sizes.page as usize;
                 most[HEAD] = if mapped == 0 { 0 } else { 7 };
+                let likeliest = self.likeliest(&before.sizes(), mapped);
+                if self.cost(&before.sizes(), &likeliest) > bytes.len() {
+                    return Err(format!(
+                        "and no {mapped} frames cleared and {} bytes stored give the RAM",
+                        bytes.len()
+                    ));
+                }
             }
             // "Records after the last stay unchanged"
             Ask::List(..) => {
@@ -458,6 +484,50 @@ impl Round {
         let left = |h: &Head| u64::from(h.many) + u64::from(h.frames.saturating_sub(h.fresh));
         left(before).checked_sub(left(&self.memory.head()))
     }
+
+    // ---- W-201: "the bytes of the frames it maps too; beyond these and a write's span no RAM byte changes"
+
+    // How many bytes of a frame are not what they were, and how many are not 0.
+    fn frame(&self, sizes: &Sizes, frame: u64) -> [usize; 2] {
+        let bytes = (frame * sizes.page) as usize..((frame + 1) * sizes.page) as usize;
+        let (now, before) = (
+            &self.memory.now(RAM)[bytes.clone()],
+            &self.memory.before(RAM)[bytes],
+        );
+        let changed = now.iter().zip(before).filter(|(now, before)| now != before);
+        [
+            changed.count(),
+            now.iter().filter(|byte| **byte != 0).count(),
+        ]
+    }
+
+    // How many bytes of the RAM are not what they would be with these frames cleared and nothing stored.
+    fn cost(&self, sizes: &Sizes, cleared: &[u64]) -> usize {
+        let frames = (0..sizes.frames).map(|frame| self.frame(sizes, frame));
+        let costs = frames
+            .zip(0..)
+            .map(|(counts, frame)| counts[usize::from(cleared.contains(&frame))]);
+        costs.sum()
+    }
+
+    // So many frames, of which it is the likeliest that they were cleared: nobody says which a write took on such memory, and it can
+    // be one frame twice.
+    fn likeliest(&self, sizes: &Sizes, many: u64) -> Vec<u64> {
+        let gain = |frame: &u64| {
+            let [changed, left] = self.frame(sizes, *frame);
+            changed as isize - left as isize
+        };
+        let mut frames: Vec<u64> = (0..sizes.frames).collect();
+        frames.sort_by_cached_key(|frame| -gain(frame));
+        frames.truncate(many as usize);
+        let least = usize::from(many > 0);
+        while frames.len() > least && frames.last().is_some_and(|frame| gain(frame) < 0) {
+            frames.pop();
+        }
+        frames
+    }
+
+    // ---- what changed
 
     // No more words changed than these, and none but those needed.
     fn hold(&self, most: [usize; PARTS], needed: [usize; PARTS]) -> Result<(), String> {

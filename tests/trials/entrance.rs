@@ -91,7 +91,7 @@ pub mod library {
             index: Words, index_len: usize, count: Table, count_len: usize,
             table: Table, table_len: usize, helper: Table, helper_len: usize,
             stack: Table, stack_len: usize, cache: Table, cache_len: usize,
-            link: Table, link_len: usize) -> Answer;
+            link: Table, link_len: usize, ram: *mut u8, ram_len: usize) -> Answer;
         pub fn corwystal_look(head: *const Head, space: u32, page: u32,
             index: Words, index_len: usize, count: Table, count_len: usize,
             table: Table, table_len: usize, helper: Table, helper_len: usize,
@@ -156,7 +156,7 @@ pub unsafe fn ask_library(ask: &Ask, loan: &Loan) -> Answer {
         Ask::Drop(space, page) =>
             library::corwystal_drop(head, narrow(space), narrow(page), index, n[0], count, n[1]),
         Ask::Touch(space, page) => library::corwystal_touch(head, narrow(space), narrow(page),
-            index, n[0], count, n[1], table, n[2], helper, n[3], stack, n[4], cache, n[5], link, n[6]),
+            index, n[0], count, n[1], table, n[2], helper, n[3], stack, n[4], cache, n[5], link, n[6], ram, n[7]),
         Ask::Look(space, page) => library::corwystal_look(head, narrow(space), narrow(page),
             index, n[0], count, n[1], table, n[2], helper, n[3], stack, n[4], cache, n[5]),
         Ask::Release(space, page) => library::corwystal_release(head, narrow(space), narrow(page),

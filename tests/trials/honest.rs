@@ -1,7 +1,7 @@
 // One honest trial: the same calls for the pager and for the plain machine, on memory that held
 // garbage before the start. Answers, buffers and what each call changed are compared after every one.
 use crate::draw::Draw;
-use crate::entrance::{self, Answer, Loan};
+use crate::entrance::{self, Answer, Loan, DONE};
 use crate::garbage::{index_of, Garbage};
 use crate::memory::{Allowed, Memory, BYTES, COUNT, HEAD, INDEX, LINK, PARTS, READ, RECORDS};
 use crate::plain::{self, Ask, Call, Machine, Sizes};
@@ -27,6 +27,8 @@ pub struct Trial<'a> {
     pub traffic: Traffic,
     pub tally: &'a mut Tally,
     pub calls: u64,
+    // starts that were accepted
+    pub starts: u64,
 }
 
 // The plain machine's answer, as the entrance gives it.
@@ -82,6 +84,7 @@ impl Trial<'_> {
             traffic,
             tally,
             calls: 0,
+            starts: 0,
         }
     }
 
@@ -91,7 +94,7 @@ impl Trial<'_> {
     pub fn drawn(&mut self, many: u64, mix: &Mix) -> Result<(), String> {
         for _ in 0..many {
             self.traffic.is_careless = self.traffic.draw.once_in(20);
-            let ask = self.traffic.ask(&self.machine, &self.memory, mix);
+            let ask = self.traffic.ask(&self.machine, &self.memory.most, mix);
             self.ask(ask)?;
         }
         self.traffic.is_careless = false;
@@ -99,7 +102,8 @@ impl Trial<'_> {
     }
 
     pub fn ask(&mut self, ask: Ask) -> Result<Answer, String> {
-        let call = self.traffic.lend(&self.machine, &self.memory, ask);
+        let Memory { most, real, .. } = &self.memory;
+        let call = self.traffic.lend(&self.machine, most, real, ask);
         self.call(call)
     }
 
@@ -147,6 +151,7 @@ impl Trial<'_> {
         let loan = self.loan(&call);
         let before = self.machine.sizes();
         let pool = self.machine.pool().len();
+        let old = self.old(&call);
         let answer = watch::during(&|| self.tell(&call), || unsafe {
             entrance::make(&call.ask, &loan)
         });
@@ -163,21 +168,23 @@ impl Trial<'_> {
                 self.tell(&call)
             ));
         }
-        self.expect(&call, &should);
         let new = pool.saturating_sub(self.machine.pool().len());
+        self.expect(&call, &should, new);
         let allowed = self.allowed(&call, &answer, new);
         let same = self.memory.compare(self.machine.ram(), &allowed);
         same.and_then(|()| self.sizes_held())
             .map_err(|e| format!("{}: {e}", self.tell(&call)))?;
         self.tally.count(&call, &answer, &before);
-        self.note(&call, &answer, pool as u64);
+        self.starts += u64::from(matches!((&call.ask, answer.kind), (Ask::Start(_), DONE)));
+        self.note(&call, &answer, pool as u64, &old);
         self.calls += 1;
         Ok(answer)
     }
 
     // ---- what the memory should hold after a call
 
-    fn expect(&mut self, call: &Call, answer: &plain::Answer) {
+    // After a call that mapped so many pages.
+    fn expect(&mut self, call: &Call, answer: &plain::Answer, new: usize) {
         match (&call.ask, answer) {
             (_, plain::Answer::Refused(..)) => {}
             (Ask::Start(sizes), _) => {
@@ -189,12 +196,15 @@ impl Trial<'_> {
             }
             (Ask::Touch(space, page) | Ask::Release(space, page), _) => {
                 self.expect_counts(*space, *page..page + 1);
+                if let plain::Answer::New(frame, _) = answer {
+                    self.memory.expect_ram(self.machine.bytes_of(*frame));
+                }
             }
             (Ask::Read(_, _, count), plain::Answer::Bytes(bytes)) => {
                 self.memory.expect_own(READ, *count, bytes);
             }
             (Ask::Write(space, address, bytes), _) => {
-                self.expect_write(*space, *address, bytes.len() as u64)
+                self.expect_write(*space, *address, bytes.len() as u64, new)
             }
             (Ask::List(_, room), plain::Answer::Regions(regions)) => {
                 self.expect_records(*room, regions)
@@ -238,10 +248,19 @@ impl Trial<'_> {
         }
     }
 
-    fn expect_write(&mut self, space: u64, address: u64, count: u64) {
-        let span = self.machine.sizes().span(address, count);
-        self.expect_counts(space, span);
-        for part in self.machine.parts(space, address, count).unwrap() {
+    // The span's bytes; of one that maps all bytes of its pages, for those around it are cleared.
+    fn expect_write(&mut self, space: u64, address: u64, count: u64, new: usize) {
+        let sizes = self.machine.sizes();
+        let span = sizes.span(address, count);
+        self.expect_counts(space, span.clone());
+        let (first, many) = match new {
+            0 => (address, count),
+            _ => (
+                span.start * sizes.page,
+                (span.end - span.start) * sizes.page,
+            ),
+        };
+        for part in self.machine.parts(space, first, many).unwrap() {
             self.memory.expect_ram(part);
         }
     }
@@ -254,7 +273,7 @@ impl Trial<'_> {
             .expect_own(RECORDS, self.memory.own_records(room), &bytes);
     }
 
-    // "What a call may change", in the words that the program chooses.
+    // "What a call may change", in the words that the program chooses. It chooses none of the RAM: the machine has each byte of it.
     fn allowed(&mut self, call: &Call, answer: &Answer, new: usize) -> Allowed {
         let mut words = [0; PARTS];
         // page table, helper, stack, region cache, frame link

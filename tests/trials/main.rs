@@ -1,8 +1,11 @@
-// Trials of the pager's C entrance at full size, against the plain machine of ../plain/plain.rs, and on
-// memory that no call left. run.sh builds and runs it:
+// Trials of the pager's C entrance at full size, against the plain machine of ../plain/plain.rs, in pairs of
+// runs on memories that held different things, and on memory that no call left. run.sh builds and runs it:
 //     trials gate                  the fixed seeds
+//     trials alike                 of these the pairs of runs
+//     trials any                   of these the calls on any memory
 //     trials checked               a few on the heap, for an address checker
 //     trials long SEED MINUTES     other seeds, from SEED on
+mod alike;
 mod anything;
 #[cfg(broken)]
 mod broken;
@@ -12,6 +15,7 @@ mod draw;
 mod entrance;
 mod garbage;
 mod honest;
+mod largest;
 mod memory;
 #[path = "../plain/plain.rs"]
 mod plain;
@@ -42,12 +46,18 @@ fn dishonest(seed: u64, scale: Scale, calls: u64, count: &mut Count) {
     played.unwrap_or_else(|e| fail(e));
 }
 
-// Every call has been refused with 1 to 3 and has got past them.
+// Every call has been refused with 1 to 3 and has got past them; touches and writes have cleared.
 fn tell(count: &Count, how: &str) {
     for (name, outcomes) in CALLS.iter().zip(&count.outcomes) {
         if outcomes.contains(&0) {
             fail(format!("{name} was never refused, or always"));
         }
+    }
+    if count.cleared.contains(&0) || count.short == 0 {
+        let Count { cleared, short, .. } = count;
+        fail(format!(
+            "{cleared:?} touches and writes cleared a frame, {short} touches lacked RAM alone"
+        ));
     }
     let Count {
         calls,
@@ -56,6 +66,21 @@ fn tell(count: &Count, how: &str) {
         ..
     } = count;
     println!("trials: {calls} calls in {rounds} rounds on any memory {how}, {nines} of them refused with 9");
+}
+
+fn alike() {
+    let mut met = alike::Met::default();
+    for seed in 0..120 {
+        alike::play(seed, &mut met).unwrap_or_else(|e| fail(e));
+    }
+    let missing = met.missing();
+    if !missing.is_empty() {
+        fail(format!("never came about in two runs: {missing:?}"));
+    }
+    println!(
+        "trials: {} calls in {} pairs of runs are answered alike, {} reads of new pages whose frames held different bytes",
+        met.calls, met.runs, met.reads
+    );
 }
 
 fn gate() {
@@ -80,6 +105,13 @@ fn gate() {
         "trials: {} calls in {} runs agree, every answer of every call among them",
         tally.calls, tally.runs
     );
+    alike();
+    let last = largest::play().unwrap_or_else(|e| fail(e));
+    println!("trials: the last {last} of 65,536 frames of 65,536 bytes are cleared when a page comes to them, and no byte beside them");
+    any();
+}
+
+fn any() {
     let mut count = Count::default();
     for seed in 0..4_000 {
         dishonest(seed, Scale::Small, 40, &mut count);
@@ -103,6 +135,7 @@ fn checked() {
 fn long(first: u64, minutes: u64) {
     let begun = Instant::now();
     let (mut tally, mut count) = (Tally::default(), Count::default());
+    let mut met = alike::Met::default();
     let mut seed = first;
     while begun.elapsed() < Duration::from_secs(60 * minutes) || seed == first {
         honest(&runs::drawn(seed), &mut tally);
@@ -110,13 +143,16 @@ fn long(first: u64, minutes: u64) {
             dishonest(30 * seed + round, Scale::Small, 40, &mut count);
         }
         dishonest(seed, Scale::Large, 20, &mut count);
+        alike::play(seed, &mut met).unwrap_or_else(|e| fail(e));
         seed += 1;
     }
     println!(
-        "trials: seeds {first} to {}: {} calls in {} runs agree",
+        "trials: seeds {first} to {}: {} calls in {} runs agree, {} calls in {} pairs of runs are answered alike",
         seed - 1,
         tally.calls,
-        tally.runs
+        tally.runs,
+        met.calls,
+        met.runs
     );
     tell(&count, "end and stay inside their buffers");
 }
@@ -131,10 +167,12 @@ fn main() {
     };
     match words[..] {
         ["gate"] => gate(),
+        ["alike"] => alike(),
+        ["any"] => any(),
         ["checked"] => checked(),
         ["long", seed, minutes] => long(number(seed), number(minutes)),
         #[cfg(broken)]
         ["faults"] => println!("{}", broken::names().join("\n")),
-        _ => fail("gate, checked, or long SEED MINUTES".to_string()),
+        _ => fail("gate, alike, any, checked, or long SEED MINUTES".to_string()),
     }
 }

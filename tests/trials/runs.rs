@@ -121,7 +121,7 @@ pub fn table() -> Vec<(Plan, Course)> {
     made.collect()
 }
 
-fn drawn_sizes(draw: &mut Draw) -> Sizes {
+pub fn drawn_sizes(draw: &mut Draw) -> Sizes {
     let t = match draw.below(16) {
         0..=5 => draw.from_to(1, 70),
         6..=8 => draw.among(&[64, 65, 128, 4_095, 4_096, 4_097, 4_160]),

@@ -31,6 +31,7 @@ impl Trial<'_> {
         self.begin(self.plan.sizes)?;
         self.stretch(course)?;
         for _ in 0..course.starts {
+            // on what the calls left: the RAM is full of bytes that no page may show
             let sizes = self.traffic.other_sizes(&self.memory.real);
             self.begin(sizes)?;
             self.stretch(&Course {
@@ -106,6 +107,11 @@ impl Trial<'_> {
         self.drawn(course.mixed, &MIXED)
     }
 
+    // Whether the RAM is there: no page is mapped without it.
+    fn has_ram(&self) -> bool {
+        self.machine.sizes().needed()[RAM] <= self.memory.real[RAM]
+    }
+
     // Touches of runs of pages and writes over many, until every frame is taken or most pages are.
     fn empty_pool(&mut self) -> Result<(), String> {
         let sizes = self.machine.sizes();
@@ -113,7 +119,7 @@ impl Trial<'_> {
             self.ask(Ask::Mark(0, 0))?;
         }
         for _ in 0..100 + sizes.frames / 40 {
-            if self.machine.pool().is_empty() {
+            if self.machine.pool().is_empty() || !self.has_ram() {
                 break;
             }
             let draw = &mut self.traffic.draw;
@@ -201,19 +207,21 @@ impl Trial<'_> {
             self.surely(|| Ask::Mark(space, 0))?;
         }
         for place in 0..spaces * pages {
-            if self.machine.pool().is_empty() {
+            if self.machine.pool().is_empty() || !self.has_ram() {
                 break;
             }
             self.surely(|| Ask::Touch(place / pages, place % pages))?;
         }
-        let resident = self.machine.list_of(0).len() as u64 * page;
-        let span = resident.min(self.plan.longest);
-        if self.machine.sizes().needed()[RAM] <= self.memory.real[RAM] {
+        if self.has_ram() {
+            let resident = self.machine.list_of(0).len() as u64 * page;
+            let span = resident.min(self.plan.longest);
+            // the last pages, before anything is stored there
+            self.surely(|| Ask::Read(0, resident - span, span))?;
             let bytes = self.traffic.draw.bytes(span);
             self.surely(|| Ask::Write(0, 0, bytes.clone()))?;
             self.surely(|| Ask::Read(0, 0, span))?;
+            self.surely(|| Ask::Translate(0, resident - 1))?;
         }
-        self.surely(|| Ask::Translate(0, resident - 1))?;
         for space in 0..spaces {
             self.surely(|| Ask::Release(space, 0))?;
         }

@@ -3,6 +3,7 @@
 use crate::entrance::{
     Answer, ABSENT, AT, BYTES, DONE, FRAMES, NEW, OLD, PAGES, REGIONS, RESIDENT,
 };
+use crate::memory::RAM;
 use crate::plain::{Ask, Call, Sizes};
 use std::collections::HashSet;
 
@@ -57,6 +58,15 @@ const WORDS: [&[u32]; 3] = [&[1], &[1, 2, 3], &[1, 3, 5]];
 pub const PAGE_SIZES: [u64; 9] = [256, 512, 1_024, 2_048, 4_096, 8_192, 16_384, 32_768, 65_536];
 pub const SPACES: [u64; 5] = [1, 2, 3, 7, 64];
 pub const PLACES: [u64; 6] = [1, 64, 65, 4_096, 4_097, 262_144];
+
+// Whether a call is refused with 1 for its RAM, and would be refused with none of 1 to 3 otherwise.
+pub fn lacks_ram_alone(call: &Call, sizes: &Sizes) -> bool {
+    let is_short = |b: &usize| call.lent[*b] < call.ask.is_lent()[*b] * sizes.needed()[*b];
+    sizes.within_limits()
+        && (0..8).filter(is_short).eq([RAM])
+        && call.ask.space().is_some_and(|space| space < sizes.spaces)
+        && call.ask.is_inside(sizes)
+}
 
 // How a call reads in a report.
 pub fn line(ask: &Ask) -> String {
@@ -128,11 +138,21 @@ pub enum Case {
     MoreRecordsThanRegions,
     OneRecordTooFew,
     FarBeyondTheSpace,
+    // "all P bytes of its frame are set to 0": where other bytes stood, so that it shows
+    TouchedOverOldBytes,
+    MappedOverOldBytesAfterALaterStart,
+    WroteBehindOldBytes,
+    WroteBeforeOldBytes,
+    // and where none may be cleared
+    WroteBesideOldBytesAndMapped,
+    RefusedWriteWithOldBytesToClear,
+    // "1 also when the RAM lent to touch is too short"
+    ResidentPageTouchedWithoutItsRam,
 }
 
 use Case::*;
 
-const CASES: [Case; 26] = [
+const CASES: [Case; 33] = [
     AllFramesReleasedAtOnce,
     TenThousandRecords,
     FiveThousandPagesRead,
@@ -159,6 +179,13 @@ const CASES: [Case; 26] = [
     MoreRecordsThanRegions,
     OneRecordTooFew,
     FarBeyondTheSpace,
+    TouchedOverOldBytes,
+    MappedOverOldBytesAfterALaterStart,
+    WroteBehindOldBytes,
+    WroteBeforeOldBytes,
+    WroteBesideOldBytesAndMapped,
+    RefusedWriteWithOldBytesToClear,
+    ResidentPageTouchedWithoutItsRam,
 ];
 
 #[derive(Default)]

@@ -1,7 +1,6 @@
 // Calls drawn for honest trials. The machine's state is at hand, so that most calls have something
 // to do: starts, resident pages and their neighbours, the borders of words, layers and spaces.
 use crate::draw::Draw;
-use crate::memory::Memory;
 use crate::plain::{Ask, Call, Lent, Machine, Sizes};
 use crate::watch::UNREACHABLE;
 
@@ -193,7 +192,8 @@ impl Traffic {
 
     // ---- the calls
 
-    pub fn ask(&mut self, machine: &Machine, memory: &Memory, mix: &Mix) -> Ask {
+    // A start of wrong sizes needs more than the most that a call can be lent.
+    pub fn ask(&mut self, machine: &Machine, most: &Lent, mix: &Mix) -> Ask {
         let place = self.place(machine);
         let (space, page) = self.astray(machine, place);
         let start = self.start_or_not(machine);
@@ -214,7 +214,7 @@ impl Traffic {
                 Ask::Write(space, address, self.draw.bytes(count))
             }
             9 => self.list(machine, space),
-            _ => Ask::Start(self.wrong_sizes(&memory.most)),
+            _ => Ask::Start(self.wrong_sizes(most)),
         }
     }
 
@@ -333,12 +333,12 @@ impl Traffic {
 
     // ---- lengths
 
-    // Mostly all of the memory; else just enough, more than that, or one buffer too short.
-    pub fn lend(&mut self, machine: &Machine, memory: &Memory, ask: Ask) -> Call {
-        let mut lent = memory.most;
+    // Mostly all of the memory; else just enough, more than that, or one buffer too short. A start prepares what is really there.
+    pub fn lend(&mut self, machine: &Machine, most: &Lent, real: &Lent, ask: Ask) -> Call {
+        let mut lent = *most;
         let mut needed = machine.sizes().needed();
         if let Ask::Start(sizes) = &ask {
-            lent = memory.real;
+            lent = *real;
             needed = sizes.needed();
         }
         if self.draw.once_in(if self.is_careless { 2 } else { 12 }) {

@@ -65,7 +65,7 @@ pub fn drop(head: &Head, space: u32, page: u32, index: &mut [u64], count: &[u32]
     marking::drop(*head, space, page, index, count)
 }
 
-// The page's frame, mapped if need be.
+// The page's frame, mapped if need be; a new page reads as zeros.
 pub fn touch(
     head: &mut Head,
     space: u32,
@@ -77,14 +77,15 @@ pub fn touch(
     stack: &mut [u32],
     cache: &mut [u32],
     link: &mut [u32],
+    ram: &mut [u8],
 ) -> Touched
-    ensures { λ r. ⌜ ((ram : List ℕ) →
+    ensures { λ r. ⌜
         Did (machine.touch space page)
         (memory (now (head .entry)) (now (index .entry)) (now (count .entry)) (now (table .entry)) (now (helper .entry)) (now (stack .entry))
-        (now (cache .entry)) (now (link .entry)) ram)
+        (now (cache .entry)) (now (link .entry)) (now (ram .entry)))
         (touchedSays r)
         (memory (now (head .exit)) (now (index .entry)) (now (count .exit)) (now (table .exit)) (now (helper .exit)) (now (stack .exit)) (now (cache .exit))
-        (now (link .exit)) ram)) ⌝ }
+        (now (link .exit)) (now (ram .exit))) ⌝ }
 {
     let touched = touching::touch(
         *head,
@@ -97,6 +98,7 @@ pub fn touch(
         stack,
         cache,
         link,
+        ram,
     );
     head.first = touched.head.first;
     head.many = touched.head.many;

@@ -91,7 +91,7 @@ pub extern "C" fn corwystal_drop(
     requests::encode_done(board::drop(head, space, page, index, count))
 }
 
-// The page's frame, mapped if need be.
+// The page's frame, mapped if need be; a new page reads as zeros.
 #[no_mangle]
 pub extern "C" fn corwystal_touch(
     head: &mut Head,
@@ -104,15 +104,15 @@ pub extern "C" fn corwystal_touch(
     stack: &mut [u32],
     cache: &mut [u32],
     link: &mut [u32],
+    ram: &mut [u8],
 ) -> Answer
     ensures { λ r. ⌜ Encodes Touched touchedSays (λ a.
-        (ram : List ℕ) →
         Did (machine.touch space page)
         (memory (now (head .entry)) (now (index .entry)) (now (count .entry)) (now (table .entry)) (now (helper .entry)) (now (stack .entry))
-        (now (cache .entry)) (now (link .entry)) ram)
+        (now (cache .entry)) (now (link .entry)) (now (ram .entry)))
         (touchedSays a)
         (memory (now (head .exit)) (now (index .entry)) (now (count .exit)) (now (table .exit)) (now (helper .exit)) (now (stack .exit)) (now (cache .exit))
-        (now (link .exit)) ram)) r ⌝ }
+        (now (link .exit)) (now (ram .exit)))) r ⌝ }
 {
     requests::encode_touched(board::touch(
         head,
@@ -125,6 +125,7 @@ pub extern "C" fn corwystal_touch(
         stack,
         cache,
         link,
+        ram,
     ))
 }
 

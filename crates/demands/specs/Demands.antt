@@ -12,7 +12,7 @@ use Rattle.machine.specs.declared.Copied.{Copied}
 use Rattle.machine.specs.declared.Copied.the-variants as copied-is
 use Rattle.machine.specs.declared.Listed.{Listed}
 use Rattle.machine.specs.declared.Listed.the-variants as listed-is
-use Rattle.machine.specs.Machine.{State, Lent, Call, release, free, translate, read, write, list, asked, ramAt, withRam, recordsOf, Answer, done, at, bytes}
+use Rattle.machine.specs.Machine.{Sizes, State, begun, Lent, Call, release, free, translate, read, write, list, asked, ramAt, withRam, recordsOf, Answer, done, at, bytes}
 use Rattle.machine.specs.Machine.{frames, regions, answers, after, afterAll}
 use Rattle.machine.specs.Claims.{residentPages, timesFree, timesHeld, isRefused, Address, Same, Spared}
 use Rattle.memory.specs.Memory.{Memory, sizesOf, lengths}
@@ -58,6 +58,13 @@ pub record Sequence (m : State) (k : Memory) (es : List Event) (k′ : Memory) :
 
 abbrev pub Demand2 : Type 0
 Demand2 = (m : State) (k k′ : Memory) (es : List Event) → Sequence m k es k′ → map (λ e. e .answer) es ≡ answers (withRam m (k .ram)) (calls es)
+
+-- W-201: "on memory as in demand 2, no answer since a start depends on the RAM's starting contents either". Two accepted starts with the same sizes, on
+-- memories that held anything, and the same calls with the same lengths lent after each; later starts may stand among them
+abbrev pub Demand2Ram : Type 0
+Demand2Ram =
+    (z : Sizes) (k k′ l l′ : Memory) (es fs : List Event) → Sequence (begun z []) k es k′ → Sequence (begun z []) l fs l′ → calls es ≡ calls fs
+    → map (λ e. e .answer) es ≡ map (λ e. e .answer) fs
 
 -- ---- Demand 3. Document 01: "one claim about the whole sequence of calls, not one for each call"
 

@@ -5,6 +5,7 @@ pub mod Agree
 pub mod Lent
 pub mod Step
 pub mod Run
+pub mod Rooms
 pub mod Next
 pub mod Byte
 pub mod Filled

@@ -1,21 +1,24 @@
 -- The three demands, and what holds when bytes reach the RAM from outside, proved.
 use mathlib.Core.Path.{refl, sym, ap, _∙_}
-use mathlib.Core.List.{List}
+use mathlib.Core.List.{List, []}
 use Prim.Native.Nat.{ℕ}
 use lib.ListN.{length, getD}
-use Rattle.machine.specs.Machine.{State, Lent, Call, translate, Answer, at, withRam, recordsOf, afterAll}
+use Rattle.sequence.specs.Lists.{getD-same}
+use Rattle.machine.specs.Machine.{places, State, begun, Lent, Call, translate, Answer, at, withRam, recordsOf, answers, afterAll}
 use Rattle.machine.specs.Claims.{Same}
 use Rattle.machine.specs.Laws.Holders.{one-holder, pool-and-resident, same-byte}
 use Rattle.machine.specs.Laws.Records.{listed-pages}
 use Rattle.machine.specs.Laws.Bytes.{read-there}
+use Rattle.machine.specs.Laws.Hidden.{ram-unseen}
 use Rattle.memory.specs.Memory.{Memory, lengths}
 use Rattle.promise.specs.Holds.{Holds}
 use Rattle.promise.specs.Did.{Did}
 use Rattle.laws.specs.Refusals.{refused-still}
 use Rattle.laws.specs.Located.{translate-asks, translate-next, translate-resident}
 use Rattle.demands.specs.History.{calls}
-use Rattle.demands.specs.Demands.{Demand1, Demand1Read, Demand1List, machineAt, Demand2, Demand3For}
+use Rattle.demands.specs.Demands.{Demand1, Demand1Read, Demand1List, machineAt, Demand2, Demand2Ram, Demand3For}
 use Rattle.demands.specs.Laws.Run.{begins-holding, sequence-follows}
+use Rattle.demands.specs.Laws.Rooms.{run-rooms}
 use Rattle.demands.specs.Laws.Next.{free-next, list-next, read-asks}
 use Rattle.demands.specs.Laws.Byte.{stored-there}
 use Rattle.demands.specs.Laws.Filled.{course-follows}
@@ -32,6 +35,16 @@ demand-1-list i k r slice slice′ d = d .kept
 
 pub demand-2 : Demand2
 demand-2 m k k′ es q = sequence-follows m k k′ es q .answers-are
+
+pub demand-2-ram : Demand2Ram
+demand-2-ram z k k′ l l′ es fs q r same =
+    let m = withRam (begun z []) (l .ram) in
+    let H = begins-holding (begun z []) k (q .started) (q .beginning) in
+    let H′ = begins-holding (begun z []) l (r .started) (r .beginning) in
+    demand-2 (begun z []) k k′ es q
+    ∙ ram-unseen m (H′ .sound) (λ a. getD-same (places z) a []) (k .ram) (calls es) (rw same (run-rooms m H′ (r .run))) (run-rooms _ H (q .run))
+    ∙ ap (answers m) same
+    ∙ sym (demand-2 (begun z []) l l′ fs r)
 
 -- no two resident addresses share a byte
 addresses-apart : (m : State) (k : Memory) → Holds m k → (i x j y p : ℕ) (a b : Memory) → Did (translate i x) k (at p) a → Did (translate j y) k (at p) b
@@ -54,14 +67,13 @@ demand-3 m₀ k k′ es q room =
       listed = λ most a k″ d. (recordsOf m, λ i h. list-next m k′ H room i (most i) h (d i h .0) (a i) (k″ i) (d i h .1), listed-pages m s);
       one-read = λ i x v b a k″ d.
           let t = stored-there m₀ k k′ es q i x v b in
-          d .honest m H .answer-is ∙ read-there m i x v (t .stored) .one (lengths k′) (read-asks m k′ H room i x (t .here));
+          d .honest m H .answer-is ∙ read-there m i x v (t .shown) .one (lengths k′) (read-asks m k′ H room i x (t .here));
       every-read = λ i x v b y n vs k″ d low high.
-          read-there m i x v (stored-there m₀ k k′ es q i x v b .stored) .over y n (lengths k′) vs (sym (d .honest m H .answer-is)) low high;
+          read-there m i x v (stored-there m₀ k k′ es q i x v b .shown) .over y n (lengths k′) vs (sym (d .honest m H .answer-is)) low high;
       in-ram = λ i x v b a k″ d.
           let t = stored-there m₀ k k′ es q i x v b in
-          let b′ = t .stored in
-          let placed = translate-next m k′ H i x (b′ .place) (translate-asks m k′ H room i x (t .here)) (b′ .is-at) a k″ d in
-          (b′ .place, placed, ap (λ (ram : List ℕ). getD ram (b′ .place) 0) (H .ram-is) ∙ b′ .is);
+          let (p, told, byte) = read-there m i x v (t .shown) .points (lengths k′) (translate-asks m k′ H room i x (t .here)) in
+          (p, d .honest m H .answer-is ∙ told, ap (λ (ram : List ℕ). getD ram p 0) (H .ram-is) ∙ byte);
       constant = λ i b a k″ d. d .bounds;
     }
 

@@ -1,17 +1,19 @@
 -- On any memory: the bounds of what mapping a page changes.
 use mathlib.Core.Path.{_≡_, refl, subst}
-use mathlib.Core.List.{List}
+use mathlib.Core.List.{List, [], _∷_}
 use Prim.Native.Nat.{ℕ, zero, suc, _+_, _<_}
 use native.Mathlib.Nat.{add-zero}
 use native.Mathlib.Omega.{arith}
 use lib.ListN.{set}
 use lib.Seq.{drop-set-lt}
+use Rattle.sequence.specs.Lists.{Each}
 use Rattle.sequence.specs.Changes.{changed-set}
 use Rattle.memory.specs.Memory.{Memory, sizesOf}
 use Rattle.memory.specs.declared.Head.{Head}
-use Rattle.promise.specs.Did.{Words, framesLeft, Maps}
+use Rattle.promise.specs.Did.{Words, framesLeft, Maps, Writes}
 use Rattle.promise.specs.Shown.{Shown}
-use Rattle.pool.specs.Models.{takenFrom}
+use Rattle.pool.specs.Models.{takenFrom, taken}
+use Rattle.laws.specs.Refusals.{words-none}
 use Rattle.planning.specs.Planning.{Inside}
 use Rattle.entries.specs.Models.{mapPage}
 
@@ -30,8 +32,8 @@ one-less : (link : List ℕ) (h : Head) (n : ℕ) → h .many ≡ n → takenFro
 one-less link h zero e low = omega arith
 one-less link h (suc n) e low = omega arith
 
--- what mapping may change: one word in each table
-pub map-bounds : (k : Memory) (i b p a : ℕ) → (Shown k i b → ⊥) → Inside k p a → Maps (sizesOf (k .head)) i b 1 k (mapPage k a p)
+-- what mapping may change: one word in each table, and the bytes of the frame
+map-bounds : (k : Memory) (i b p a : ℕ) → (Shown k i b → ⊥) → Inside k p a → Maps (sizesOf (k .head)) i b 1 k (mapPage k a p)
 map-bounds k i b p a hidden g =
     record {
       mapped = 1;
@@ -48,3 +50,21 @@ map-bounds k i b p a hidden g =
       cache = words-set _ (k .cache) p a (g .place);
       link = words-set _ (k .link) _ _ (g .frame);
     }
+
+pub map-writes : (k : Memory) (i b p a : ℕ) → (Shown k i b → ⊥) → Inside k p a → Writes (sizesOf (k .head)) i b 1 0 k (mapPage k a p)
+unfolding map-bounds
+map-writes k i b p a hidden g =
+    record {
+      maps = map-bounds k i b p a hidden g;
+      fills =
+          record {
+            frames = taken (k .link) (k .head) .frame ∷ [];
+            one-each = refl;
+            below = one-below (g .frame);
+            stored = words-none 0 _ _;
+          };
+    }
+  where
+    one-below : {f : ℕ} → f < k .head .frames → Each 0 (λ g. g < k .head .frames) (f ∷ [])
+    one-below l zero h = l
+    one-below l (suc j) h = absurd (omega arith)

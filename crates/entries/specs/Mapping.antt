@@ -1,5 +1,5 @@
 -- On honest memory storing the words of a new page keeps memory and machine together.
-use mathlib.Core.Path.{_≡_, refl, sym, ap, _∙_, subst}
+use mathlib.Core.Path.{_≡_, refl, sym, ap, ap₂, _∙_, subst}
 use mathlib.Core.Logic.{_≢_}
 use mathlib.Core.Option.{Option·some-injective}
 use mathlib.Core.List.{List, [], _∷_, _++_}
@@ -9,10 +9,10 @@ use native.Mathlib.Omega.{arith}
 use lib.ListN.{length, getD, length-set, length-append, List·getD-append}
 use lib.Seq.{getD-set-same, getD-set-other, getD-append-seam}
 use Rattle.machine.specs.declared.PageCall.the-variants.{Touch}
-use Rattle.machine.specs.Machine.{places, State, Pair, region, startOf, pageOf, unmapped, withPair, pageFacts}
+use Rattle.machine.specs.Machine.{Sizes, places, State, Pair, region, startOf, pageOf, unmapped, withPair, zeroed, cleared, pageFacts}
 use Rattle.machine.specs.Claims.{noPair}
 use Rattle.machine.specs.Laws.Lookup.{Unmapped, is-unmapped, not-in}
-use Rattle.machine.specs.Laws.Kept.{sound-paired}
+use Rattle.machine.specs.Laws.Kept.{sound-paired, sound-stored}
 use Rattle.machine.specs.Laws.Stays.{held-inside}
 use Rattle.memory.specs.Memory.{Memory, at, lengths}
 use Rattle.promise.specs.Holds.{Placed, Holds}
@@ -51,7 +51,7 @@ module _ (m : State) (k : Memory) (h : Holds m k) (p a : ℕ) (low : p < places 
     pair = record { place = p; frame = taken (k .link) (k .head) .frame }
 
     abbrev after : State
-    after = withPair m a p (taken (k .link) (k .head) .frame) rest
+    after = cleared (withPair m a p (taken (k .link) (k .head) .frame) rest) (taken (k .link) (k .head) .frame)
 
     region-here : region after a ≡ region m a ++ (pair ∷ [])
     region-here = getD-set-same (m .held) a _ [] (held-inside m (h .sound) p a (u .region-is))
@@ -109,7 +109,7 @@ module _ (m : State) (k : Memory) (h : Holds m k) (p a : ℕ) (low : p < places 
         let f = taken (k .link) (k .head) .frame in
         let newest = newestOf (k .table) (k .stack) a (at (k .count) a) in
         record {
-          sound = sound-paired m (h .sound) p a f rest u is;
+          sound = sound-stored (withPair m a p f rest) (sound-paired m (h .sound) p a f rest u is) _;
           sizes-are = sizes-taken (k .link) (k .head) (k .head .many) ∙ h .sizes-are;
           index-long = h .index-long;
           count-long = simp length-set (h .count-long);
@@ -118,11 +118,11 @@ module _ (m : State) (k : Memory) (h : Holds m k) (p a : ℕ) (low : p < places 
           entries = all-placed;
           links = linked-paired m k h f rest is (lent .link refl) a p newest (next .start-low) (newest-honest m k h a (next .start-low));
           pooled = pooled-taken m k h f rest is newest;
-          ram-is = h .ram-is;
+          ram-is = ap₂ (λ (z : Sizes) (ram : List ℕ). zeroed z f ram) (h .sizes-are) (h .ram-is);
         }
 
   pub map-holds : Long (pageFacts Touch .uses) (m .sizes) (lengths k) → (f : ℕ) (rest : List ℕ) → m .pool ≡ f ∷ rest
-      → Holds (withPair m a p f rest) (mapPage k a p)
+      → Holds (cleared (withPair m a p f rest) f) (mapPage k a p)
   map-holds lent f rest is =
       let e = taken-honest m k h f rest is .0 in
-      subst (λ (g : ℕ). Holds (withPair m a p g rest) (mapPage k a p)) e (holds-after lent rest (is ∙ ap (λ (g : ℕ). g ∷ rest) (sym e)))
+      subst (λ (g : ℕ). Holds (cleared (withPair m a p g rest) g) (mapPage k a p)) e (holds-after lent rest (is ∙ ap (λ (g : ℕ). g ∷ rest) (sym e)))

@@ -1,10 +1,11 @@
 -- What mapping a page does, on lists.
 use Prim.Native.Nat.{ℕ, _+_}
 use lib.ListN.{set}
-use Rattle.memory.specs.Memory.{Memory, at}
+use Rattle.machine.specs.Machine.{zeroed}
+use Rattle.memory.specs.Memory.{Memory, at, sizesOf}
 use Rattle.pool.specs.Models.{newestOf, taken}
 
--- the memory after page p of the region at a is mapped
+-- the memory after page p of the region at a is mapped, and its frame cleared
 abbrev pub mapPage : Memory → ℕ → ℕ → Memory
 mapPage k a p =
     let n = at (k .count) a in
@@ -18,5 +19,5 @@ mapPage k a p =
       stack = set (k .stack) (a + n) p;
       cache = set (k .cache) p a;
       link = set (k .link) f (newestOf (k .table) (k .stack) a n);
-      ram = k .ram;
+      ram = zeroed (sizesOf (k .head)) f (k .ram);
     }

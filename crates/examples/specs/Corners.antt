@@ -1,4 +1,4 @@
--- Corners of document 01's rules, by computing from the definitions; each plays from no start made, on a RAM of 7s.
+-- Corners of document 01's rules and of document 02's, by computing from the definitions; each plays from no start made, on a RAM of 7s.
 use mathlib.Core.Path.{_≡_, refl}
 use mathlib.Core.List.{List, [], _∷_, _++_}
 use lib.ListN.{replicate}
@@ -108,7 +108,7 @@ reads : says
     ∷ translate 0 512 all
     ∷ translate 0 300 all
     ∷ [])
-    (done ∷ done ∷ new 0 1 ∷ refused 4 ∷ refused 10 ∷ bytes (7 ∷ 7 ∷ []) ∷ refused 10 ∷ at 44 ∷ [])
+    (done ∷ done ∷ new 0 1 ∷ refused 4 ∷ refused 10 ∷ bytes (0 ∷ 0 ∷ []) ∷ refused 10 ∷ at 44 ∷ [])
 unfolding played
 reads = refl
 
@@ -136,7 +136,7 @@ writes : says
     ∷ frames 2
     ∷ absent 1
     ∷ done
-    ∷ bytes (7 ∷ 8 ∷ 9 ∷ 7 ∷ [])
+    ∷ bytes (0 ∷ 8 ∷ 9 ∷ 0 ∷ [])
     ∷ at 255
     ∷ refusedAfter 8 1
     ∷ pages 2
@@ -146,6 +146,50 @@ writes : says
     ∷ [])
 unfolding played
 writes = refl
+
+-- W-201: a page mapped by touch or by write reads as zeros, though its frame held other bytes, in this history or before the start; a resident page of
+-- the span keeps its own; a touch needs the RAM, of a resident page too
+new-pages : says
+    (start (sizes 1 4 2 256) all
+    ∷ mark 0 0 all
+    ∷ write 0 254 (1 ∷ 2 ∷ 3 ∷ []) all
+    ∷ read 0 253 5 all
+    ∷ release 0 0 all
+    ∷ touch 0 0 all
+    ∷ read 0 0 1 all
+    ∷ write 0 3 (8 ∷ []) all
+    ∷ write 0 255 (9 ∷ 9 ∷ []) all
+    ∷ read 0 254 3 all
+    ∷ read 0 510 2 all
+    ∷ read 0 2 2 all
+    ∷ touch 0 1 (record { index = 1; count = 4; table = 4; helper = 4; stack = 4; cache = 4; link = 2; ram = 511 })
+    ∷ touch 0 1 (record { index = 1; count = 4; table = 4; helper = 4; stack = 4; cache = 4; link = 2; ram = 512 })
+    ∷ start (sizes 1 4 2 256) all
+    ∷ mark 0 0 all
+    ∷ touch 0 0 all
+    ∷ read 0 0 2 all
+    ∷ [])
+    (done
+    ∷ done
+    ∷ done
+    ∷ bytes (0 ∷ 1 ∷ 2 ∷ 3 ∷ 0 ∷ [])
+    ∷ pages 2
+    ∷ new 1 1
+    ∷ bytes (0 ∷ [])
+    ∷ done
+    ∷ done
+    ∷ bytes (0 ∷ 9 ∷ 9 ∷ [])
+    ∷ bytes (0 ∷ 0 ∷ [])
+    ∷ bytes (0 ∷ 8 ∷ [])
+    ∷ refusedAfter 1 0
+    ∷ old 0
+    ∷ done
+    ∷ done
+    ∷ new 0 1
+    ∷ bytes (0 ∷ 0 ∷ [])
+    ∷ [])
+unfolding played
+new-pages = refl
 
 -- list, with room for every region or not; pages below the first start are in no record
 lists : says

@@ -1,5 +1,5 @@
 -- What a call that kept its promise left as long as it was, on any memory, and the sizes of one that begins nothing.
-use mathlib.Core.Path.{_≡_, ap}
+use mathlib.Core.Path.{_≡_, ap, _∙_}
 use mathlib.Core.Option.{none}
 use Prim.Native.Nat.{ℕ}
 use native.Mathlib.Omega.{arith}
@@ -8,7 +8,8 @@ use Rattle.machine.specs.Machine.{Lent, Call, start, page, free, translate, rea
 use Rattle.machine.specs.Machine.{regionEmptied, spanStored, Answer, Sizes}
 use Rattle.machine.specs.declared.PageCall.the-variants.{Mark, Drop, Touch, Look, Release}
 use Rattle.memory.specs.Memory.{Memory, sizesOf, lengths}
-use Rattle.promise.specs.Did.{Tables, Maps, BoundsBy, Did}
+use Rattle.promise.specs.Did.{Tables, Writes, BoundsBy, Did}
+use Rattle.promise.specs.Refuses.{zeroed-all-long}
 use Rattle.laws.specs.Refusals.{PreparesNothing}
 
 -- words were changed, none added
@@ -25,8 +26,10 @@ tables-long w = λ j.
       ram = length (w .ram j);
     }
 
-maps-long : {z : Sizes} {i b n : ℕ} {k k′ : Memory} → Maps z i b n k k′ → length (k′ .ram) ≡ length (k .ram) → lengths k′ ≡ lengths k
-maps-long w r = λ j.
+writes-long : {z : Sizes} {i b c n : ℕ} {k k′ : Memory} → Writes z i b c n k k′ → lengths k′ ≡ lengths k
+writes-long {z} {k = k} {k′ = k′} b =
+    let w = b .maps in
+    let r : length (k′ .ram) ≡ length (k .ram) = b .fills .stored .few .size ∙ zeroed-all-long z (b .fills .frames) (k .ram) in λ j.
     record {
       index = length (w .index j);
       count = w .count .few .size j;
@@ -52,9 +55,9 @@ lengths-by (prepared z) n k k′ b = λ j.
       ram = length (b .ram j);
     }
 lengths-by (startPut i p) n k k′ b = tables-long (b .words)
-lengths-by (pageMapped i p) n k k′ b = maps-long (b .0) (ap length (b .1))
+lengths-by (pageMapped i p) n k k′ b = writes-long b
 lengths-by (regionEmptied i p) n k k′ b = tables-long b
-lengths-by (spanStored i x vs) n k k′ b = maps-long (b .maps) (b .ram .few .size)
+lengths-by (spanStored i x vs) n k k′ b = writes-long b
 
 pub lengths-stay : (c : Lent → Call) (k : Memory) (a : Answer) (k′ : Memory) → Did c k a k′ → lengths k′ ≡ lengths k
 lengths-stay c k a k′ d = lengths-by (facts (c (lengths k)) .change) _ k k′ (d .bounds)
@@ -65,7 +68,7 @@ sizes-by : (e : Effect) (n : ℕ) (k k′ : Memory) → PreparesNothing e → Bo
 sizes-by unchanged n k k′ p b = ap (λ (x : Memory). sizesOf (x .head)) b
 sizes-by (prepared z) n k k′ p b = absurd p
 sizes-by (startPut i q) n k k′ p b = b .words .sizes
-sizes-by (pageMapped i q) n k k′ p b = b .0 .sizes
+sizes-by (pageMapped i q) n k k′ p b = b .maps .sizes
 sizes-by (regionEmptied i q) n k k′ p b = b .sizes
 sizes-by (spanStored i x vs) n k k′ p b = b .maps .sizes
 

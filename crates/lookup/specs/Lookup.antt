@@ -17,7 +17,7 @@ use Rattle.machine.specs.Laws.Sizes.{both, place-below}
 use Rattle.machine.specs.Laws.Regions.{owner-of}
 use Rattle.machine.specs.Laws.Lookup.{Entry, frame-in, not-in, Mapped, mapped-is, unmapped-is}
 use Rattle.machine.specs.Laws.Holders.{frame-below}
-use Rattle.machine.specs.Laws.Bytes.{ram-mapped}
+use Rattle.machine.specs.Laws.Holders.{ram-mapped}
 use Rattle.memory.specs.Memory.{Memory, at, sizesOf}
 use Rattle.lookup.specs.declared.Sight.{Sight}
 use Rattle.lookup.specs.declared.Sight.the-variants as sight-is

@@ -12,7 +12,7 @@ use Rattle.extent.specs.Checks.{check, placesOk}
 use Rattle.index.specs.declared.Found as found
 use Rattle.index.specs.declared.Found.the-variants as found-is
 use Rattle.machine.specs.declared.PageCall.the-variants.{Look}
-use Rattle.machine.specs.Machine.{everyBuffer, Sizes, places, placeOf, sizesOk, Uses, look, asked, Answer, refusedAfter}
+use Rattle.machine.specs.Machine.{Lent, everyBuffer, Sizes, places, placeOf, sizesOk, Uses, look, asked, Answer, refusedAfter}
 use Rattle.machine.specs.Laws.Sizes.{fit, some-places, place-below}
 use Rattle.memory.specs.Memory.{Memory, memory, at, sizesOf, lengths}
 use Rattle.memory.specs.declared.Head.{Head}
@@ -21,7 +21,7 @@ use Rattle.lookup.specs.declared.Sight.the-variants.{Mapped, Unmapped, O
 use Rattle.promise.specs.Shown.{residentOk, frameOf}
 use Rattle.lookup.specs.Models.{sightMapped, sightFound, Searched, Seen, lookSays}
 use Rattle.laws.specs.Models.{lookLengths, checkOf}
-use Rattle.promise.specs.Did.{Words, Tables, Did}
+use Rattle.promise.specs.Did.{Did}
 use Rattle.laws.specs.Refusals.{Long}
 use Rattle.laws.specs.Passing.{page-passes}
 use Rattle.laws.specs.Checks.{page-check}
@@ -147,26 +147,23 @@ lookable h i index count table helper stack cache link ram ok space lent b page 
       cache-long = lent .cache refl;
     }
 
--- a call that changes words of tables, and neither sizes nor lengths, keeps a page so
-pub still-ready : {z : Sizes} {x c t e s a l : ℕ} {k k′ : Memory} → Tables z x c t e s a l k k′ → {i b : ℕ}
+-- a call that changes neither sizes nor lengths keeps a page so
+pub still-ready : (k k′ : Memory) → sizesOf (k′ .head) ≡ sizesOf (k .head) → lengths k′ ≡ lengths k → {i b : ℕ}
     → Ready (k .head) i b (k .index) (k .count) (k .table) (k .helper) (k .stack) (k .cache) → Ready (k′ .head) i b (k′ .index) (k′ .count) (k′ .table)
     (k′ .helper) (k′ .stack) (k′ .cache)
-still-ready {k = k} {k′ = k′} t {i} {b} y =
-    let back = sym (t .sizes) in
+still-ready k k′ same long {i} {b} y =
+    let back = sym same in
     record {
       sizes-ok = subst (λ (z : Sizes). sizesOk z ≡ true) back (y .sizes-ok);
       space = subst (λ (z : Sizes). i < z .spaces) back (y .space);
       page = subst (λ (z : Sizes). b < z .pages) back (y .page);
-      index-long = long (λ z. size (places z)) (t .index) (y .index-long);
-      count-long = long places (t .count) (y .count-long);
-      table-long = long places (t .table) (y .table-long);
-      helper-long = long places (t .helper) (y .helper-long);
-      stack-long = long places (t .stack) (y .stack-long);
-      cache-long = long places (t .cache) (y .cache-long);
+      index-long = omega (arith, ap (λ (z : Sizes). size (places z)) same, ap (λ (l : Lent). l .index) long, y .index-long);
+      count-long = omega (arith, ap places same, ap (λ (l : Lent). l .count) long, y .count-long);
+      table-long = omega (arith, ap places same, ap (λ (l : Lent). l .table) long, y .table-long);
+      helper-long = omega (arith, ap places same, ap (λ (l : Lent). l .helper) long, y .helper-long);
+      stack-long = omega (arith, ap places same, ap (λ (l : Lent). l .stack) long, y .stack-long);
+      cache-long = omega (arith, ap places same, ap (λ (l : Lent). l .cache) long, y .cache-long);
     }
-  where
-    long : (need : Sizes → ℕ) {d n : ℕ} {ws ws′ : List ℕ} → Words d n ws ws′ → need (sizesOf (k .head)) ≤ length ws → need (sizesOf (k′ .head)) ≤ length ws′
-    long need w l = omega (arith, ap need (t .sizes), w .few .size, l)
 
 module _ (h : Head) (i b : ℕ) (index count table helper stack cache : List ℕ) where
   pub look-ready : {no : ℕ} → no ≡ checkOf h (lookLengths (memory h index count table helper stack cache [] [])) i (ltb b (h .pages)) → no ≡ 0

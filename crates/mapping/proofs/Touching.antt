@@ -1,39 +1,79 @@
--- The touches of a span's pages, one turn of the loop after another.
-use mathlib.Core.Path.{_≡_, subst}
-use mathlib.Core.List.{List, []}
-use Prim.Native.Nat.{ℕ, suc, _+_, _-_, _≤_, _<_}
-use native.Mathlib.Nat.{sub-self}
+-- The pages of a span touched, one turn of the loop after another.
+use mathlib.Core.Path.{_≡_, refl, sym, ap, _∙_, subst}
+use mathlib.Core.List.{List}
+use Prim.Native.Nat.{ℕ, suc, _+_, _-_, _*_, _/_, _%_, _≤_, _<_, min}
+use native.Mathlib.Nat.{mod-lt}
 use native.Mathlib.Omega.{arith}
-use Rattle.machine.specs.Machine.{touch, Answer}
-use Rattle.memory.specs.Memory.{Memory, sizesOf}
-use Rattle.promise.specs.Did.{Did, Tables}
+use lib.ListN.{length}
+use Rattle.machine.specs.declared.Touched.{Touched}
+use Rattle.machine.specs.declared.Touched.the-variants as touched-is
+use Rattle.machine.specs.Answers.{touchedSays}
+use Rattle.machine.specs.Machine.{Sizes, placeOf, places, spanPages, Lent, touch}
+use Rattle.memory.specs.Memory.{Memory, withBytes, sizesOf, lengths}
+use Rattle.promise.specs.Did.{Did}
 use Rattle.laws.specs.Spans.{AllTouched, none-touched, one-touched}
-use Rattle.mapping.specs.Touches.{all-maps, all-tables}
+use Rattle.spans.specs.PartLaws.{PagesDone, pages-none, pages-before, one-page-more, pages-more}
+use Rattle.paging.specs.Models.{clearedFor, tabledFor}
+use Rattle.mapping.specs.Touches.{all-sizes, touched-lengths}
+use Rattle.mapping.specs.Spans.{aroundFor, AlikeBut, SpanTouched, alike-more}
 
--- the pages from `first` to before `page`, whatever the RAM, which no touch is lent
-pub record SoFar (i first end page : ℕ) (k k′ : List ℕ → Memory) : Type 0 where
-  pub low : first ≤ page
-  pub high : page ≤ end
-  pub touched : (ram : List ℕ) → AllTouched i first (k ram) (page - first) (k′ ram)
+-- the pages of the first `done` bytes
+pub record SoFar (i x n done : ℕ) (k k′ : Memory) : Type 0 where
+  pub pages : PagesDone (sizesOf (k .head)) x n done
+  pub zeros : List ℕ
+  pub touched : AllTouched i (x / sizesOf (k .head) .page) k (spanPages (sizesOf (k .head)) x done) (withBytes k′ zeros)
+  pub alike : AlikeBut (k .head) i x done (k′ .table) zeros (k′ .ram)
 
-pub touched-none : {i first end : ℕ} {k : List ℕ → Memory} → first ≤ end → SoFar i first end first k k
-touched-none l = record { low = omega arith; high = l; touched = λ ram. rw sub-self none-touched }
+pub touched-none : (i x n : ℕ) (k : Memory) → 0 < sizesOf (k .head) .page → SoFar i x n 0 k k
+touched-none i x n k pos =
+    record { pages = pages-none (sizesOf (k .head)) x n pos; zeros = k .ram; touched = none-touched; alike = record { long = refl; same = λ p d. refl } }
 
-module _ {i first end page : ℕ} {k k₁ : List ℕ → Memory} (s : SoFar i first end page k k₁) where
-  pub touched-more : {k₂ : List ℕ → Memory} {a : Answer} → page < end → ((ram : List ℕ) → Did (touch i page) (k₁ ram) a (k₂ ram))
-      → SoFar i first end (page + 1) k k₂
-  touched-more {k₂} {a} l d =
-      let here : page ≡ first + (page - first) = omega (arith, s .low) in
-      let one : page + 1 - first ≡ suc (page - first) = omega (arith, s .low) in
+module _ {i x n done : ℕ} {k k₁ : Memory} (s : SoFar i x n done k k₁) where
+  -- no touch changes sizes or lengths
+  pub same-sizes : sizesOf (k₁ .head) ≡ sizesOf (k .head)
+  same-sizes = all-sizes (s .touched)
+
+  pub same-lengths : lengths (withBytes k₁ (s .zeros)) ≡ lengths k
+  same-lengths = touched-lengths (s .touched)
+
+  pub ram-length : length (k₁ .ram) ≡ length (k .ram)
+  ram-length = s .alike .long ∙ ap (λ (l : Lent). l .ram) same-lengths
+
+  pub touched-all : n ≤ done → SpanTouched i x n k k₁
+  touched-all l =
+      let same : done ≡ n = omega (arith, s .pages .within) in
       record {
-        low = omega (arith, s .low);
-        high = omega arith;
-        touched = λ ram. rw one (one-touched (s .touched ram) (subst (λ (b : ℕ). Did (touch i b) (k₁ ram) a (k₂ ram)) here (d ram)));
+        zeros = s .zeros;
+        touched = rw same at (s .touched);
+        alike = rw same at (s .alike);
       }
 
-  pub touched-all : end ≤ page → (ram : List ℕ) → AllTouched i first (k ram) (end - first) (k₁ ram)
-  touched-all l ram = let same : end ≡ page = omega (arith, s .high) in rw same (s .touched ram)
+  module _ (low : done < n) (pos : 0 < sizesOf (k .head) .page) (size : ℕ)
+      (is : size ≡ min (sizesOf (k .head) .page - (x + done) % sizesOf (k .head) .page) (n - done)) (b : ℕ) (page-is : b ≡ (x + done) / sizesOf (k .head) .page)
+    where
+      abbrev z : Sizes
+      z = sizesOf (k .head)
 
-  -- no touch changes a length
-  pub touched-tables : let n = all-maps (s .touched []) .0 .mapped in Tables (sizesOf (k [] .head)) 0 n n n n n n (k []) (k₁ [])
-  touched-tables = all-tables (s .touched [])
+      pub fits : (x + done) % sizesOf (k .head) .page + size ≤ sizesOf (k .head) .page
+      fits = omega (arith, mod-lt (x + done) pos)
+
+      pub touched-more : (a : Touched) (k₂ : Memory)
+          → Did (touch i b) (withBytes k₁ (s .zeros)) (touchedSays a) (withBytes k₂ (clearedFor (k₁ .head) a (s .zeros)))
+          → k₂ .table ≡ tabledFor (k₁ .head) i b a (k₁ .table) → k₂ .ram ≡ aroundFor (k .head) a (x + done) size (k₁ .ram)
+          → placeOf (sizesOf (k .head)) i b < length (k₁ .table) → ((f w : ℕ) → a ≡ touched-is.New f w → f < k .head .frames)
+          → SoFar i x n (done + size) k k₂
+      touched-more a k₂ d table-is ram-is inside below =
+          let next = s .pages .next-page low in
+          record {
+            pages = pages-more z x n pos done size (s .pages) low is;
+            zeros = clearedFor (k₁ .head) a (s .zeros);
+            touched =
+                rw (one-page-more z x n pos done size (s .pages) low is)
+                (one-touched (s .touched)
+                (subst (λ (c : ℕ). Did (touch i c) (withBytes k₁ (s .zeros)) (touchedSays a) (withBytes k₂ (clearedFor (k₁ .head) a (s .zeros))))
+                (page-is ∙ sym next) d));
+            alike =
+                rw (table-is, ram-is)
+                (alike-more (k .head) (k₁ .head) same-sizes i x done size b pos page-is fits (pages-before z x n pos done (s .pages) low) (k₁ .table) (s .zeros)
+                (k₁ .ram) inside a below (s .alike));
+          }

@@ -1,19 +1,21 @@
 -- Touches one after another: what they may change adds up, and on honest memory they are the machine's.
 use mathlib.Core.Path.{_≡_, refl, sym, ap, _∙_, subst}
-use mathlib.Core.List.{List}
+use mathlib.Core.List.{List, [], _∷_, _++_}
 use Prim.Native.Nat.{ℕ, zero, suc, _+_, _*_, _≤_, _<_}
 use native.Mathlib.Nat.{add-zero, add-suc, suc-add, add-assoc}
 use native.Mathlib.Omega.{arith}
+use lib.ListN.{length-append}
+use Rattle.sequence.specs.Lists.{Each}
 use Rattle.sequence.specs.Changes.{changed-then}
 use Rattle.machine.specs.declared.PageCall.the-variants.{Touch}
-use Rattle.machine.specs.Machine.{Sizes, placeOf, State, pageFacts, touch, touchAt, touchAll, Answer, accepted, after}
+use Rattle.machine.specs.Machine.{Sizes, placeOf, State, pageFacts, touch, touchAt, touchAll, zeroed, Answer, accepted, after}
 use Rattle.machine.specs.Laws.Stays.{grown-all-touched}
 use Rattle.memory.specs.Memory.{Memory, sizesOf, lengths}
 use Rattle.promise.specs.Holds.{Holds}
 use Rattle.promise.specs.Shown.{Shown}
-use Rattle.promise.specs.Did.{Words, Tables, Maps, Did}
+use Rattle.promise.specs.Did.{Words, Maps, zeroedAll, Writes, Did}
 use Rattle.promise.specs.Refuses.{words-same}
-use Rattle.laws.specs.Refusals.{Long, words-none, maps-none, passed-step}
+use Rattle.laws.specs.Refusals.{Long, writes-none, passed-step}
 use Rattle.laws.specs.Lengths.{lengths-stay}
 use Rattle.laws.specs.Passing.{page-passes}
 use Rattle.laws.specs.Spans.{AllTouched, none-touched, one-touched}
@@ -30,56 +32,68 @@ still-shown {k = k} {k₁ = k₁} t e j c s =
     (t .none e, words-same e (t .count), words-same e (t .table), words-same e (t .helper), words-same e (t .stack), words-same e (t .cache))
     s
 
--- touches one after another map what each of them maps
-pub all-maps : {i b n : ℕ} {k k₁ : Memory} → AllTouched i b k n k₁ → Maps (sizesOf (k .head)) i b n k k₁ × (k₁ .ram ≡ k .ram)
-all-maps {k = k} none-touched = (maps-none _ _ _ _ k, refl)
-all-maps {i} {b} (one-touched {n} {k₁} {k₂} t d) = let p = all-maps t in (add-touch n (p .0) (d .bounds .0), d .bounds .1 ∙ p .1)
-  where
-    add-touch : {k k₁ k₂ : Memory} (n : ℕ) → Maps (sizesOf (k .head)) i b n k k₁ → Maps (sizesOf (k₁ .head)) i (b + n) 1 k₁ k₂
-        → Maps (sizesOf (k .head)) i b (suc n) k k₂
-    add-touch {k} {k₁} {k₂} n t u =
-        let v = subst (λ (z : Sizes). Maps z i (b + n) 1 k₁ k₂) (t .sizes) u in
-        record {
-          mapped = t .mapped + v .mapped;
-          taken = omega (arith, t .taken, v .taken);
-          few = omega (arith, t .few, v .few);
-          none = λ e. v .none (omega arith) ∙ t .none (omega arith);
-          shown = λ all.
-              let before : t .mapped ≡ 0 = t .shown (λ j l. all j (omega arith)) in
-              let here : v .mapped ≡ 0 =
-              v .shown (λ j l.
-              still-shown t before i (b + n + j)
-              (subst (Shown k i) (sym (add-zero (b + n)) ∙ ap (λ (c : ℕ). b + n + c) (only j l)) (all n (omega arith)))) in
-              omega arith;
-          sizes = v .sizes ∙ t .sizes;
-          index = v .index ∙ t .index;
-          count = words-then (t .count) (v .count);
-          table = words-then (t .table) (v .table);
-          helper = words-then (t .helper) (v .helper);
-          stack = words-then (t .stack) (v .stack);
-          cache = words-then (t .cache) (v .cache);
-          link = words-then (t .link) (v .link);
-        }
-      where
-        only : (j : ℕ) → j < 1 → 0 ≡ j
-        only j l = omega arith
+zeroed-all-append : (z : Sizes) (fs gs ram : List ℕ) → zeroedAll z (fs ++ gs) ram ≡ zeroedAll z gs (zeroedAll z fs ram)
+zeroed-all-append z [] gs ram = refl
+zeroed-all-append z (f ∷ fs) gs ram = zeroed-all-append z fs gs (zeroed z f ram)
 
--- no touch changes sizes or lengths
-pub all-tables : {i b n : ℕ} {k k₁ : Memory} (t : AllTouched i b k n k₁) → let c = all-maps t .0 .mapped in Tables (sizesOf (k .head)) 0 c c c c c c k k₁
-all-tables {k = k} {k₁ = k₁} t =
-    let s = all-maps t in
-    let u = s .0 in
-    record {
-      sizes = u .sizes;
-      index = rw (u .index) (words-none 0 _ (k .index));
-      count = u .count;
-      table = u .table;
-      helper = u .helper;
-      stack = u .stack;
-      cache = u .cache;
-      link = u .link;
-      ram = s .1;
-    }
+each-append : (P : ℕ → Type 0) (xs ys : List ℕ) → Each 0 P xs → Each 0 P ys → Each 0 P (xs ++ ys)
+each-append P [] ys a b j l = b j l
+each-append P (x ∷ xs) ys a b zero l = a 0 (omega arith)
+each-append P (x ∷ xs) ys a b (suc j) l = each-append P xs ys (λ k h. a (suc k) (omega arith)) b j (omega arith)
+
+-- touches one after another map and clear what each of them does
+pub all-writes : {i b n : ℕ} {k k₁ : Memory} → AllTouched i b k n k₁ → Writes (sizesOf (k .head)) i b n 0 k k₁
+all-writes {k = k} none-touched = writes-none _ _ _ _ _ k
+all-writes {i} {b} (one-touched {n} {k₁} {k₂} t d) = add-touch n (all-writes t) (d .bounds)
+  where
+    only : (j : ℕ) → j < 1 → 0 ≡ j
+    only j l = omega arith
+
+    add-touch : {k k₁ k₂ : Memory} (n : ℕ) → Writes (sizesOf (k .head)) i b n 0 k k₁ → Writes (sizesOf (k₁ .head)) i (b + n) 1 0 k₁ k₂
+        → Writes (sizesOf (k .head)) i b (suc n) 0 k k₂
+    add-touch {k} {k₁} {k₂} n first second =
+        let z = sizesOf (k .head) in
+        let t = first .maps in
+        let w = subst (λ (z : Sizes). Writes z i (b + n) 1 0 k₁ k₂) (t .sizes) second in
+        let v = w .maps in
+        let fs = first .fills .frames in
+        let gs = w .fills .frames in
+        record {
+          maps =
+              record {
+                mapped = t .mapped + v .mapped;
+                taken = omega (arith, t .taken, v .taken);
+                few = omega (arith, t .few, v .few);
+                none = λ e. v .none (omega arith) ∙ t .none (omega arith);
+                shown = λ all.
+                    let before : t .mapped ≡ 0 = t .shown (λ j l. all j (omega arith)) in
+                    let here : v .mapped ≡ 0 =
+                    v .shown (λ j l.
+                    still-shown t before i (b + n + j)
+                    (subst (Shown k i) (sym (add-zero (b + n)) ∙ ap (λ (c : ℕ). b + n + c) (only j l)) (all n (omega arith)))) in
+                    omega arith;
+                sizes = v .sizes ∙ t .sizes;
+                index = v .index ∙ t .index;
+                count = words-then (t .count) (v .count);
+                table = words-then (t .table) (v .table);
+                helper = words-then (t .helper) (v .helper);
+                stack = words-then (t .stack) (v .stack);
+                cache = words-then (t .cache) (v .cache);
+                link = words-then (t .link) (v .link);
+              };
+          fills =
+              record {
+                frames = fs ++ gs;
+                one-each = omega (arith, length-append fs gs, first .fills .one-each, w .fills .one-each);
+                below = each-append (λ f. f < z .frames) fs gs (first .fills .below) (w .fills .below);
+                stored =
+                    rw (zeroed-all-append z fs gs (k .ram), ← words-same refl (first .fills .stored)) (w .fills .stored);
+              };
+        }
+
+-- no touch changes sizes
+pub all-sizes : {i b n : ℕ} {k k₁ : Memory} → AllTouched i b k n k₁ → sizesOf (k₁ .head) ≡ sizesOf (k .head)
+all-sizes t = all-writes t .maps .sizes
 
 -- ---- on honest memory
 
@@ -92,7 +106,7 @@ touch-all-more m p (suc n) =
     ∙ ap (λ (q : ℕ). touchAt (touchAll (touchAt m p .after) (suc p) n) q .after) (suc-add p n ∙ sym (add-suc p n))
 
 -- and lengths stay
-touched-lengths : {i b n : ℕ} {k k₁ : Memory} → AllTouched i b k n k₁ → lengths k₁ ≡ lengths k
+pub touched-lengths : {i b n : ℕ} {k k₁ : Memory} → AllTouched i b k n k₁ → lengths k₁ ≡ lengths k
 touched-lengths none-touched = refl
 touched-lengths {i} {b} (one-touched {n} {k₁} {k₂} {a} t d) = lengths-stay (touch i (b + n)) k₁ a k₂ d ∙ touched-lengths t
 

@@ -1,19 +1,38 @@
-// Mapping the pages of a span: each is touched by touch's own promise, ascending.
+// Mapping the pages of a span: each is touched by touch's own promise, ascending, and a new page's frame cleared where the span's bytes don't
+// cover it. The others will be stored over.
+use clearing::clear_around;
+use machine::Touched;
 use memory::Head;
 use paging::touch_checked;
-ghost use mathlib.Core.List.{List};
-ghost use Prim.Native.Nat.{ℕ, _-_, _≤_, _<_};
-ghost use Rattle.machine.specs.Machine as machine;
-ghost use Rattle.memory.specs.Memory.{memory};
-ghost use Rattle.laws.specs.Spans.{AllTouched};
+use spans::page_of;
+use spans::part;
+ghost use mathlib.Core.Path.{_≡_};
+ghost use Prim.Native.Nat.{ℕ, _+_, _%_, _≤_, _<_};
+ghost use Rattle.machine.specs.declared.Touched.the-variants.{New};
+ghost use Rattle.memory.specs.Memory.{memory, sizesOf};
+ghost use Rattle.clearing.specs.Clears.{Frame};
+ghost use Rattle.spans.specs.Parts.{Span};
 ghost use Rattle.paging.specs.Fits.{Touchable};
+ghost use Rattle.mapping.specs.Spans.{aroundFor, SpanTouched};
 
-// Touches the pages from first to before end, ascending.
+// Clears the frame of a page that was mapped, but for the n bytes from address x on.
+fn clear_new(head: Head, answer: Touched, x: usize, n: usize, ram: &mut [u8])
+    requires { ⌜ ((f w : ℕ) → answer ≡ New f w → Frame head f (now ram)) × (x % sizesOf head .page + n ≤ sizesOf head .page) ⌝ }
+    ensures { λ _. ⌜ now (ram .exit) ≡ aroundFor head answer x n (now (ram .entry)) ⌝ }
+{
+    match answer {
+        Touched::New(frame, _) => clear_around(head, frame, x, n, ram),
+        Touched::Old(_) => {}
+        Touched::Refused(_, _) => {}
+    }
+}
+
+// Touches the pages of the n bytes from an address on, ascending.
 pub fn touch_all(
     head: Head,
     space: u32,
-    first: usize,
-    end: usize,
+    address: usize,
+    n: usize,
     index: &[u64],
     count: &mut [u32],
     table: &mut [u32],
@@ -21,24 +40,27 @@ pub fn touch_all(
     stack: &mut [u32],
     cache: &mut [u32],
     link: &mut [u32],
+    ram: &mut [u8],
 ) -> Head
-    requires { ⌜ (first ≤ end)
-        × ((b : ℕ) → b < end → Touchable head space b (now index) (now count) (now table) (now helper) (now stack) (now cache) (now link)) ⌝ }
-    ensures { λ r. ⌜ ((ram : List ℕ) →
-        AllTouched space first
+    requires { ⌜ Span head space address n (now ram)
+        × ((b : ℕ) → b < head .pages → Touchable head space b (now index) (now count) (now table) (now helper) (now stack) (now cache) (now link)) ⌝ }
+    ensures { λ r. ⌜
+        SpanTouched space address n
         (memory head (now (index .entry)) (now (count .entry)) (now (table .entry)) (now (helper .entry)) (now (stack .entry)) (now (cache .entry))
-        (now (link .entry)) ram)
-        (end - first)
+        (now (link .entry)) (now (ram .entry)))
         (memory r (now (index .entry)) (now (count .exit)) (now (table .exit)) (now (helper .exit)) (now (stack .exit)) (now (cache .exit))
-        (now (link .exit)) ram)) ⌝ }
+        (now (link .exit)) (now (ram .exit))) ⌝ }
 {
     let mut after = head;
-    let mut next = first;
-    while next < end {
+    let mut done = 0;
+    while done < n {
+        let x = address + done;
+        let size = part(head, x, n - done);
+        let page = page_of(head, x);
         let touched = touch_checked(
             after,
             space,
-            next as u32,
+            page as u32,
             index,
             count,
             table,
@@ -47,8 +69,10 @@ pub fn touch_all(
             cache,
             link,
         );
+        let answer = touched.answer;
+        clear_new(head, answer, x, size, ram);
         after = touched.head;
-        next += 1;
+        done += size;
     }
     after
 }

@@ -32,15 +32,16 @@ pub fn serve_page(
     stack: &mut [u32],
     cache: &mut [u32],
     link: &mut [u32],
+    ram: &mut [u8],
 ) -> Served
-    ensures { λ r. ⌜ ((buffer records ram : List ℕ) →
+    ensures { λ r. ⌜ ((buffer records : List ℕ) →
         Serves (Page call space page)
         (memory head (now (index .entry)) (now (count .entry)) (now (table .entry)) (now (helper .entry)) (now (stack .entry)) (now (cache .entry))
-        (now (link .entry)) ram)
+        (now (link .entry)) (now (ram .entry)))
         buffer records
         (r .reply)
         (memory (r .head) (now (index .exit)) (now (count .exit)) (now (table .exit)) (now (helper .exit)) (now (stack .exit)) (now (cache .exit))
-        (now (link .exit)) ram)
+        (now (link .exit)) (now (ram .exit)))
         buffer records) ⌝ }
 {
     match call {
@@ -70,6 +71,7 @@ pub fn serve_page(
                 stack,
                 cache,
                 link,
+                ram,
             );
             let head = out.head;
             let a = out.answer;

@@ -1,7 +1,8 @@
 -- What the steps of a touch may take for granted.
 use mathlib.Core.List.{List}
-use Prim.Native.Nat.{ℕ, _≤_}
+use Prim.Native.Nat.{ℕ, _*_, _≤_}
 use lib.ListN.{length}
+use Rattle.memory.specs.Memory.{sizesOf}
 use Rattle.memory.specs.declared.Head.{Head}
 use Rattle.lookup.specs.declared.Sight.{Sight}
 use Rattle.lookup.specs.Ready.{Ready, SeenOf}
@@ -10,6 +11,10 @@ use Rattle.lookup.specs.Ready.{Ready, SeenOf}
 pub record Touchable (h : Head) (i b : ℕ) (index count table helper stack cache link : List ℕ) : Type 0 where
   pub ready : Ready h i b index count table helper stack cache
   pub link-long : h .frames ≤ length link
+
+-- W-201: a touch is lent the RAM too
+abbrev pub RamLong : Head → List ℕ → Type 0
+RamLong h ram = sizesOf h .frames * sizesOf h .page ≤ length ram
 
 -- a touch whose page was looked up
 pub record Due (h : Head) (i b : ℕ) (index count table helper stack cache link : List ℕ) (s : Sight) : Type 0 where

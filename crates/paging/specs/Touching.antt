@@ -12,18 +12,18 @@ use Rattle.lookup.specs.declared.Sight.the-variants as sight-is
 use Rattle.planning.specs.declared.Plan.{Plan}
 use Rattle.planning.specs.declared.Plan.the-variants as plan-is
 use Rattle.promise.specs.Holds.{Holds}
-use Rattle.promise.specs.Did.{Later, still, Maps, Follows, Did}
+use Rattle.promise.specs.Did.{Later, still, Writes, Follows, Did}
 use Rattle.promise.specs.Shown.{Shown}
 use Rattle.lookup.specs.Models.{SeenAt}
 use Rattle.pool.specs.Models.{emptyPool}
 use Rattle.planning.specs.Models.{fitOk, planIf, planFor, planOf}
 use Rattle.planning.specs.Planning.{new-hidden, Sane, plan-sane}
 use Rattle.planning.specs.Fitting.{fits-honest}
-use Rattle.entries.specs.Bounds.{map-bounds}
+use Rattle.entries.specs.Bounds.{map-writes}
 use Rattle.entries.specs.Mapping.{map-holds}
 use Rattle.paging.specs.Models.{planSays, planLeaves, Touches, TouchDone}
-use Rattle.laws.specs.Models.{touchLengths}
-use Rattle.laws.specs.Refusals.{Long, maps-none, passed-step, checked-did, admitted}
+use Rattle.laws.specs.Models.{everyLength}
+use Rattle.laws.specs.Refusals.{Long, writes-none, passed-step, checked-did, admitted}
 use Rattle.laws.specs.Checks.{page-check}
 use Rattle.pool.specs.Pool.{pool-none, pool-some, taken-honest}
 use Rattle.lookup.specs.Lookup.{SightIs, seen-honest}
@@ -42,10 +42,10 @@ module _ (k : Memory) (p : ℕ) where
   plan-still (plan-is.Refused n c) e = refl
 
   plan-bounds : (i b : ℕ) (x : Plan) → Sane k p x → ((a c : ℕ) → x ≡ plan-is.New a c → Shown k i b → ⊥)
-      → Maps (sizesOf (k .head)) i b 1 k (planLeaves x k p) × (planLeaves x k p .ram ≡ k .ram)
-  plan-bounds i b (plan-is.Old f) g hidden = (maps-none _ _ _ _ k, refl)
-  plan-bounds i b (plan-is.New a c) g hidden = (map-bounds k i b p a (hidden a c refl) g, refl)
-  plan-bounds i b (plan-is.Refused n c) g hidden = (maps-none _ _ _ _ k, refl)
+      → Writes (sizesOf (k .head)) i b 1 0 k (planLeaves x k p)
+  plan-bounds i b (plan-is.Old f) g hidden = writes-none _ _ _ _ _ k
+  plan-bounds i b (plan-is.New a c) g hidden = map-writes k i b p a (hidden a c refl) g
+  plan-bounds i b (plan-is.Refused n c) g hidden = writes-none _ _ _ _ _ k
 
 -- ---- on honest memory: what the machine does
 
@@ -91,7 +91,7 @@ touch-honest i b k passes s seen m h =
 
 pub touch-did : (i b : ℕ) (k : Memory) (a : Answer) (k′ : Memory) → TouchDone i b k a k′ → Did (touch i b) k a k′
 touch-did i b k a k′ d =
-    checked-did (touch i b) k _ (page-check k i b Touch (touchLengths k) refl) (Touches k i b) a k′ d
+    checked-did (touch i b) k _ (page-check k i b Touch (everyLength k) refl) (Touches k i b) a k′ d
     (λ e r.
     let p = placeOf (sizesOf (k .head)) i b in
     let x = planOf k (r .sight) in

@@ -1,4 +1,5 @@
-// What a touch does once its checks have passed: a resident page answers its frame, an absent one is mapped to the pool's first.
+// What a touch does to the tables once its checks have passed: a resident page answers its frame, an absent one is mapped to the pool's
+// first. The frame of a new page is the caller's to clear: a write need not clear what it is about to store over.
 use checks::all_places;
 use checks::place;
 use entries::map_page;
@@ -9,13 +10,15 @@ use memory::Head;
 use memory::TouchOut;
 use planning::Plan;
 use planning::plan_for;
+ghost use mathlib.Core.Path.{_≡_};
 ghost use mathlib.Core.List.{List};
 ghost use Prim.Native.Nat.{ℕ};
 ghost use Rattle.machine.specs.Machine as machine;
 ghost use Rattle.machine.specs.Answers.{touchedSays};
 ghost use Rattle.memory.specs.Memory.{memory};
 ghost use Rattle.promise.specs.Did.{Did};
-ghost use Rattle.paging.specs.Fits.{Touchable, Due};
+ghost use Rattle.paging.specs.Fits.{Touchable, RamLong, Due};
+ghost use Rattle.paging.specs.Models.{clearedFor, tabledFor};
 
 // The touch of a page that was looked up: the plan for it, carried out.
 pub fn touch_seen(
@@ -35,12 +38,14 @@ pub fn touch_seen(
     ensures { λ r. ⌜ ((index ram : List ℕ) →
         Due head space page index (now (count .entry)) (now (table .entry)) (now (helper .entry)) (now (stack .entry)) (now (cache .entry))
         (now (link .entry)) seen →
+        RamLong head ram →
         Did (machine.touch space page)
         (memory head index (now (count .entry)) (now (table .entry)) (now (helper .entry)) (now (stack .entry)) (now (cache .entry))
         (now (link .entry)) ram)
         (touchedSays (r .answer))
         (memory (r .head) index (now (count .exit)) (now (table .exit)) (now (helper .exit)) (now (stack .exit)) (now (cache .exit))
-        (now (link .exit)) ram)) ⌝ }
+        (now (link .exit)) (clearedFor head (r .answer) ram))) ⌝ }
+    ensures { λ r. ⌜ now (table .exit) ≡ tabledFor head space page (r .answer) (now (table .entry)) ⌝ }
 {
     let todo = plan_for(head, seen, count, stack, all_places(head));
     match todo {
@@ -80,12 +85,14 @@ pub fn touch_checked(
 ) -> TouchOut
     requires { ⌜ Touchable head space page (now index) (now count) (now table) (now helper) (now stack) (now cache) (now link) ⌝ }
     ensures { λ r. ⌜ ((ram : List ℕ) →
+        RamLong head ram →
         Did (machine.touch space page)
         (memory head (now (index .entry)) (now (count .entry)) (now (table .entry)) (now (helper .entry)) (now (stack .entry)) (now (cache .entry))
         (now (link .entry)) ram)
         (touchedSays (r .answer))
         (memory (r .head) (now (index .entry)) (now (count .exit)) (now (table .exit)) (now (helper .exit)) (now (stack .exit)) (now (cache .exit))
-        (now (link .exit)) ram)) ⌝ }
+        (now (link .exit)) (clearedFor head (r .answer) ram))) ⌝ }
+    ensures { λ r. ⌜ now (table .exit) ≡ tabledFor head space page (r .answer) (now (table .entry)) ⌝ }
 {
     let seen = see(head, space, page, index, count, table, helper, stack, cache);
     touch_seen(

@@ -6,16 +6,17 @@ use mathlib.Core.Logic.{inl, inr}
 use Prim.Native.Nat.{ℕ, zero, suc, _+_, _*_, _/_, _≤_, _<_}
 use native.Mathlib.Omega.{arith}
 use lib.ListN.{length, drop as dropped}
-use Rattle.sequence.specs.Lists.{Changed}
+use Rattle.sequence.specs.Lists.{Each, Changed}
 use Rattle.sequence.specs.Changes.{changed-zero}
 use Rattle.machine.specs.Machine.{Sizes, State, begun, spanPages, Lent, Call, start, mark, touch, look, release, write, facts, asked, answer, after, refusal}
 use Rattle.machine.specs.Machine.{Kind, ended, touched, looked, released, counted, translated, copied, listed, refusalOf, Answer, done, old, new, resident}
 use Rattle.machine.specs.Machine.{absent, pages, frames, at, bytes, regions, refused, refusedAfter, Effect, unchanged, prepared, startPut, pageMapped}
-use Rattle.machine.specs.Machine.{regionEmptied, spanStored}
+use Rattle.machine.specs.Machine.{regionEmptied, spanStored, zeroed}
+use Rattle.machine.specs.Laws.Zeroed.{length-zeroed, zeroed-beyond}
 use Rattle.memory.specs.Memory.{Memory, memory, withBytes, sizesOf, lengths}
 use Rattle.promise.specs.Holds.{Holds}
 use Rattle.promise.specs.Shown.{Shown, AllShown}
-use Rattle.promise.specs.Did.{Among, Later, Exactly, still, Words, framesLeft, Maps, BoundsBy, Did}
+use Rattle.promise.specs.Did.{Among, Later, Exactly, still, Words, framesLeft, Maps, zeroedAll, Fills, BoundsBy, Did}
 
 -- the number that document 01's checks for 1 to 3 ask for
 abbrev check : (Lent → Call) → Memory → ℕ
@@ -82,7 +83,7 @@ abbrev pub within : Effect → Memory → Memory → Memory
 within unchanged k k′ = k
 within (prepared z) k k′ = memory (k′ .head) (k′ .index) (k′ .count) (k .table) (k .helper) (k .stack) (k .cache) (k .link) (k .ram)
 within (startPut i b) k k′ = memory (k .head) (k′ .index) (k .count) (k .table) (k .helper) (k .stack) (k .cache) (k .link) (k .ram)
-within (pageMapped i b) k k′ = memory (k′ .head) (k .index) (k′ .count) (k′ .table) (k′ .helper) (k′ .stack) (k′ .cache) (k′ .link) (k .ram)
+within (pageMapped i b) k k′ = memory (k′ .head) (k .index) (k′ .count) (k′ .table) (k′ .helper) (k′ .stack) (k′ .cache) (k′ .link) (k′ .ram)
 within (regionEmptied i b) k k′ = memory (k′ .head) (k .index) (k′ .count) (k .table) (k .helper) (k .stack) (k .cache) (k′ .link) (k .ram)
 within (spanStored i x vs) k k′ = memory (k′ .head) (k .index) (k′ .count) (k′ .table) (k′ .helper) (k′ .stack) (k′ .cache) (k′ .link) (k′ .ram)
 
@@ -98,13 +99,38 @@ within-by (startPut i p) n k k′ b = let w = b .words in let e = refl in λ j.
     (words-same e (w .cache) j)
     (words-same e (w .link) j) (w .ram j)
 within-by (pageMapped i p) n k k′ b = λ j.
-    memory (k′ .head) (b .0 .index j) (k′ .count) (k′ .table) (k′ .helper) (k′ .stack) (k′ .cache) (k′ .link) (b .1 j)
+    memory (k′ .head) (b .maps .index j) (k′ .count) (k′ .table) (k′ .helper) (k′ .stack) (k′ .cache) (k′ .link) (k′ .ram)
 within-by (regionEmptied i p) n k k′ b = let e = refl in λ j.
     memory (k′ .head) (words-same e (b .index) j) (k′ .count) (words-same e (b .table) j) (words-same e (b .helper) j) (words-same e (b .stack) j)
     (words-same e (b .cache) j) (k′ .link)
     (b .ram j)
 within-by (spanStored i x vs) n k k′ b = λ j.
     memory (k′ .head) (b .maps .index j) (k′ .count) (k′ .table) (k′ .helper) (k′ .stack) (k′ .cache) (k′ .link) (k′ .ram)
+
+-- ---- frames cleared
+
+pub zeroed-all-long : (z : Sizes) (fs ram : List ℕ) → length (zeroedAll z fs ram) ≡ length ram
+zeroed-all-long z [] ram = refl
+zeroed-all-long z (f ∷ fs) ram = zeroed-all-long z fs (zeroed z f ram) ∙ length-zeroed z f ram
+
+-- of no pages none
+none-filled : {z : Sizes} {c n : ℕ} {ram ram′ : List ℕ} → (w : Fills z c n ram ram′) → c ≡ 0 → Words n (z .frames * z .page) ram ram′
+none-filled {z} {c} {n} {ram} {ram′} w e = go (w .frames) (w .one-each ∙ e) (w .stored)
+  where
+    go : (fs : List ℕ) → length fs ≡ 0 → Words n (z .frames * z .page) (zeroedAll z fs ram) ram′ → Words n (z .frames * z .page) ram ram′
+    go [] l s = s
+    go (f ∷ fs) l s = absurd (omega arith)
+
+-- the bytes past the frames stay
+pub zeroed-all-beyond : (z : Sizes) (fs ram : List ℕ) → Each 0 (λ f. f < z .frames) fs
+    → dropped (z .frames * z .page) (zeroedAll z fs ram) ≡ dropped (z .frames * z .page) ram
+zeroed-all-beyond z [] ram below = refl
+zeroed-all-beyond z (f ∷ fs) ram below =
+    zeroed-all-beyond z fs (zeroed z f ram) (λ j l. below (suc j) (omega arith)) ∙ zeroed-beyond z f ram (below 0 (omega arith))
+
+pub fills-beyond : {z : Sizes} {c n : ℕ} {ram ram′ : List ℕ} → Fills z c n ram ram′
+    → dropped (z .frames * z .page) ram′ ≡ dropped (z .frames * z .page) ram
+fills-beyond {z} {c} {n} {ram} w = w .stored .excess ∙ zeroed-all-beyond z (w .frames) ram (w .below)
 
 -- where no page is mapped only the RAM changes
 only-ram : (z : Sizes) (i b n : ℕ) (k k′ : Memory) (w : Maps z i b n k k′) → w .mapped ≡ 0 → k′ ≡ withBytes k (k′ .ram)
@@ -126,7 +152,7 @@ module _ (c : Lent → Call) (k : Memory) (a : Answer) (k′ : Memory) (d : Did 
       let x : a ≡ refusal (c (lengths k)) (suc n) = subst (λ m. Exactly m (sizesOf (k .head)) (c (lengths k)) a) e (d .asks) in
       (x, d .stays (ap still x ∙ own-refusal (sizesOf (k .head)) (facts (c (lengths k)) .kind) (suc n) .1))
 
-  -- no buffer changes but those of the table "What a call may change": none where it only asks, and the RAM under a write alone
+  -- no buffer changes but those of the table "What a call may change": none where it only asks, and the RAM under touch and write alone
   pub others-keep : k′ ≡ within (facts (c (lengths k)) .change) k k′
   others-keep = within-by (facts (c (lengths k)) .change) (check c k) k k′ (d .bounds)
 
@@ -179,24 +205,40 @@ module _ (i b : ℕ) (k : Memory) (a : Answer) (k′ : Memory) where
 
   -- a touch takes one frame at most and gives none, and where the tables show the page all stays
   pub touch-takes-one : Did (touch i b) k a k′ → (n : ℕ) × (n ≤ 1) × (framesLeft (k .head) ≡ framesLeft (k′ .head) + n)
-  touch-takes-one d = (d .bounds .0 .mapped, d .bounds .0 .few, d .bounds .0 .taken)
+  touch-takes-one d = let w = d .bounds .maps in (w .mapped, w .few, w .taken)
+
+  -- it clears the frame that it takes, and no other byte changes
+  pub touch-clears : Did (touch i b) k a k′ → (fs : List ℕ) × (length fs ≤ 1) × (framesLeft (k .head) ≡ framesLeft (k′ .head) + length fs)
+      × (k′ .ram ≡ zeroedAll (sizesOf (k .head)) fs (k .ram))
+  touch-clears d =
+      let w = d .bounds in
+      let e = w .fills .one-each in
+      (w .fills .frames, omega (arith, w .maps .few), omega (arith, w .maps .taken), words-same refl (w .fills .stored))
 
   pub touch-shown : Shown k i b → Did (touch i b) k a k′ → k′ ≡ k
   touch-shown s d =
-      let w = d .bounds .0 in
-      only-ram _ i b 1 k k′ w (w .shown (λ j l. subst (Shown k i) (omega arith) s)) ∙ ap (withBytes k) (d .bounds .1)
+      let w = d .bounds .maps in
+      let e = w .shown (λ j l. subst (Shown k i) (omega arith) s) in
+      only-ram _ i b 1 k k′ w e ∙ ap (withBytes k) (words-same refl (none-filled (d .bounds .fills) e))
 
 module _ (i x : ℕ) (k : Memory) (a : Answer) (k′ : Memory) where
-  -- a write stores no more than its bytes, none past the frames, and where the tables show every page of the span it changes the RAM alone
-  pub write-few : (vs : List ℕ) → Did (write i x vs) k a k′ → Changed (length vs) (k .ram) (k′ .ram) × (beyond k (k′ .ram) ≡ beyond k (k .ram))
-  write-few vs d = (d .bounds .ram .few, d .bounds .ram .excess)
+  -- a write clears a frame for each that it takes, stores no more than its bytes, none past the frames
+  pub write-few : (vs : List ℕ) → Did (write i x vs) k a k′
+      → (fs : List ℕ) × (framesLeft (k .head) ≡ framesLeft (k′ .head) + length fs)
+      × Changed (length vs) (zeroedAll (sizesOf (k .head)) fs (k .ram)) (k′ .ram) × (beyond k (k′ .ram) ≡ beyond k (k .ram))
+  write-few vs d =
+      let w = d .bounds in
+      (w .fills .frames, omega (arith, w .maps .taken, w .fills .one-each), w .fills .stored .few, fills-beyond (w .fills))
+
+  -- and where the tables show every page of the span it changes the RAM alone, of that its bytes
 
   pub write-shown : (vs : List ℕ) → AllShown k i (x / sizesOf (k .head) .page) (spanPages (sizesOf (k .head)) x (length vs)) → Did (write i x vs) k a k′
-      → k′ ≡ withBytes k (k′ .ram)
-  write-shown vs s d = let w = d .bounds .maps in only-ram _ i _ _ k k′ w (w .shown s)
+      → (k′ ≡ withBytes k (k′ .ram)) × Changed (length vs) (k .ram) (k′ .ram)
+  write-shown vs s d = let w = d .bounds .maps in (only-ram _ i _ _ k k′ w (w .shown s), none-filled (d .bounds .fills) (w .shown s) .few)
 
   -- an empty one changes nothing
   pub write-empty : Did (write i x []) k a k′ → k′ ≡ k
   write-empty d =
       let w = d .bounds .maps in
-      only-ram _ i _ _ k k′ w (omega (arith, w .few)) ∙ ap (withBytes k) (words-same refl (d .bounds .ram))
+      let e : w .mapped ≡ 0 = omega (arith, w .few) in
+      only-ram _ i _ _ k k′ w e ∙ ap (withBytes k) (words-same refl (none-filled (d .bounds .fills) e))

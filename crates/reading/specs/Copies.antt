@@ -8,7 +8,7 @@ use native.Mathlib.Omega.{arith}
 use lib.ListN.{take, drop}
 use Rattle.machine.specs.Machine.{Sizes, pageOfAddress, State, Page, outside, unmapped, mapped, pageOf, ramAt, look, asked, absence}
 use Rattle.machine.specs.Laws.Lookup.{is-mapped}
-use Rattle.machine.specs.Laws.Bytes.{ram-mapped}
+use Rattle.machine.specs.Laws.Holders.{ram-mapped}
 use Rattle.machine.specs.Answers.{lookedSays}
 use Rattle.machine.specs.declared.Looked.{Looked}
 use Rattle.machine.specs.declared.Looked.the-variants.{Resident}

@@ -9,7 +9,7 @@ use Rattle.machine.specs.declared.PageCall.the-variants.{Look}
 use Rattle.machine.specs.Machine.{Sizes, placeOf, pageOfAddress, spanPages, State, pageOf, look, read, asked, bytes, refused, tell, absence, orElse}
 use Rattle.machine.specs.Machine.{firstAbsence, spanAbsence, readIf, accepted}
 use Rattle.machine.specs.Laws.Sizes.{fit, some-bytes}
-use Rattle.machine.specs.Laws.Bytes.{in-pages}
+use Rattle.machine.specs.Laws.Shows.{in-pages}
 use Rattle.machine.specs.Answers.{lookedSays}
 use Rattle.machine.specs.declared.Looked.{Looked}
 use Rattle.machine.specs.declared.Looked.the-variants.{Resident}

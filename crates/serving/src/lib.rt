@@ -59,6 +59,7 @@ pub fn serve(
             stack,
             cache,
             link,
+            ram,
         ),
         Request::Free => {
             let a = free(head);

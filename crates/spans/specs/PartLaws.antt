@@ -1,16 +1,19 @@
 -- A page's part of a span: where it lies in RAM, and the next one after it.
-use mathlib.Core.Path.{_≡_, _∙_}
+use mathlib.Core.Path.{_≡_, sym, ap, _∙_}
 use mathlib.Core.List.{List}
 use Prim.Native.Nat.{ℕ, zero, suc, _+_, _-_, _*_, _/_, _%_, _≤_, _<_, min}
-use native.Mathlib.Nat.{mod-lt, div-add-mod', div-lt-iff-lt-mul, mul-le-mul-left, mul-le-mul-right, add-sub-cancel-left}
+use native.Mathlib.Nat.{mod-lt, div-add-mod', div-lt-iff-lt-mul, mul-le-mul-left, mul-le-mul-right, add-sub-cancel-left, add-zero, add-assoc}
 use native.Mathlib.Omega.{arith}
+use lib.Arith.{digits-div}
 use lib.ListN.{length, take, drop, length-drop}
 use lib.Seq.{length-take-le}
-use Rattle.machine.specs.Machine.{spanPages}
+use Rattle.places.specs.Laws.{div-mono}
+use Rattle.machine.specs.Machine.{Sizes, spanPages}
 use Rattle.machine.specs.Claims.{Address}
 use Rattle.machine.specs.Laws.Sizes.{fit}
 use Rattle.memory.specs.Memory.{sizesOf}
 use Rattle.memory.specs.declared.Head.{Head}
+use Rattle.laws.specs.Parts.{same-page}
 use Rattle.spans.specs.Parts.{Span, Part, RamPlace}
 use Rattle.spans.specs.Shifted.{some-page, page-small}
 
@@ -75,3 +78,45 @@ module _ (h : Head) (i x n : ℕ) (ram : List ℕ) (pre : Span h i x n ram) (don
         some-bytes = omega (arith, next-some);
         fits = omega (arith, mod-lt (x + done) (some-page h (pre .sizes-ok)));
       }
+
+-- the pages of the bytes done so far lie before that of the next byte
+pub record PagesDone (z : Sizes) (x n done : ℕ) : Type 0 where
+  pub within : done ≤ n
+  pub next-page : done < n → x / z .page + spanPages z x done ≡ (x + done) / z .page
+
+module _ (z : Sizes) (x n : ℕ) (pos : 0 < z .page) where
+  pub pages-none : PagesDone z x n 0
+  pages-none = record { within = omega arith; next-page = λ _. rw (add-zero, add-zero) }
+
+  pub pages-before : (done : ℕ) → PagesDone z x n done → done < n → (j : ℕ) → j < done → (x + j) / z .page < (x + done) / z .page
+  pages-before (suc d) p l j h =
+      let least : x / z .page ≤ (x + d) / z .page = div-mono pos (omega arith) in
+      let most : (x + j) / z .page ≤ (x + d) / z .page = div-mono pos (omega arith) in
+      omega (arith, p .next-page l)
+  pages-before zero p l j h = absurd (omega arith)
+
+  module _ (done s : ℕ) (p : PagesDone z x n done) (low : done < n) (is : s ≡ min (z .page - (x + done) % z .page) (n - done)) where
+    some : 0 < s
+    some = omega (arith, mod-lt (x + done) pos)
+
+    pub one-page-more : spanPages z x (done + s) ≡ suc (spanPages z x done)
+    one-page-more =
+        let y = x + done in
+        let last = same-page (z .page) y (s - 1) (omega (arith, mod-lt y pos)) in
+        let n-is : done + s ≡ suc (done + (s - 1)) = omega (arith, some) in
+        ap (spanPages z x) n-is
+        ∙ ap suc
+        (ap (λ (c : ℕ). c / z .page - x / z .page) (sym (add-assoc x done (s - 1))) ∙ ap (λ (c : ℕ). c - x / z .page) (last .0)
+        ∙ (let e : y / z .page - x / z .page ≡ spanPages z x done = omega (arith, p .next-page low) in e))
+
+    pub pages-more : PagesDone z x n (done + s)
+    pages-more =
+        record {
+          within = omega arith;
+          next-page = λ l.
+              let y = x + done in
+              let whole : s ≡ z .page - y % z .page = omega arith in
+              let e : x + (done + s) ≡ suc (y / z .page) * z .page + 0 = omega (arith, div-add-mod' y (z .page), mod-lt y pos) in
+              let there : (x + (done + s)) / z .page ≡ suc (y / z .page) = ap (λ (c : ℕ). c / z .page) e ∙ digits-div (suc (y / z .page)) {m = z .page} pos in
+              omega (arith, p .next-page low, one-page-more);
+        }

@@ -1,7 +1,7 @@
 -- Shifts by the page size as products and quotients, and the pages of a span.
 use mathlib.Core.Path.{_≡_, refl, ap, _∙_}
 use mathlib.Core.Bool.{true}
-use Prim.Native.Nat.{ℕ, zero, suc, _+_, _-_, _*_, _/_, _%_, _^_, _≤_, _<_, min}
+use Prim.Native.Nat.{ℕ, zero, suc, _+_, _-_, _*_, _/_, _%_, _^_, _≤_, _<_}
 use native.Mathlib.Nat.{mod-eq-of-lt, mod-lt, div-le-self, mul-le-mul-right, mul-le-mul-left}
 use native.Mathlib.Omega.{arith}
 use lib.Pow.{pow-mono, shl-exact}
@@ -34,14 +34,6 @@ module _ (h : Head) (ok : sizesOk (sizesOf h) ≡ true) where
 
   pub offset-low : (x o : ℕ) → o ≡ x % sizeOf (h .page) → o < sizesOf h .page
   offset-low x o e = omega (arith, offset-exact x o e, mod-lt x some-page)
-
-  pub part-left : (x o left : ℕ) → o ≡ x % sizeOf (h .page) → left < 1 * 2 ^ (h .page .shift) % 2 ^ 64 - o
-      → left ≡ min (sizesOf h .page - x % sizesOf h .page) left
-  part-left x o left e l = omega (arith, page-shifted, offset-exact x o e)
-
-  pub part-whole : (x o left : ℕ) → o ≡ x % sizeOf (h .page) → 1 * 2 ^ (h .page .shift) % 2 ^ 64 - o ≤ left
-      → 1 * 2 ^ (h .page .shift) % 2 ^ 64 - o ≡ min (sizesOf h .page - x % sizesOf h .page) left
-  part-whole x o left e l = omega (arith, page-shifted, offset-exact x o e)
 
   -- ---- the pages of a span
 

@@ -43,13 +43,22 @@ pub fn frame_at(h: Head, space: u32, x: usize, table: &[u32]) -> u32
     table[p]
 }
 
+// How many bytes a page has.
+pub fn page_bytes(h: Head) -> usize
+    requires { ⌜ sizesOk (sizesOf h) ≡ true ⌝ }
+    ensures { λ r. ⌜ r ≡ sizesOf h .page ⌝ }
+{
+    let size = h.page;
+    1usize << size.shift
+}
+
 // How many bytes of the page of address x lie from x on, at most `left`.
 pub fn part(h: Head, x: usize, left: usize) -> usize
     requires { ⌜ sizesOk (sizesOf h) ≡ true ⌝ }
     ensures { λ r. ⌜ r ≡ min (sizesOf h .page - x % sizesOf h .page) left ⌝ }
 {
     let size = h.page;
-    let whole = (1usize << size.shift) - size.offset(x);
+    let whole = page_bytes(h) - size.offset(x);
     if left < whole {
         return left;
     }

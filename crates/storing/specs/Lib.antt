@@ -1,3 +1,2 @@
-pub mod Stores
 pub mod Storing
-pub mod Frames
+pub mod Stores

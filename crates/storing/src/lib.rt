@@ -8,10 +8,9 @@ ghost use mathlib.Core.Path.{_≡_};
 ghost use Prim.Native.Nat.{ℕ, _<_, _≤_};
 ghost use lib.ListN.{length};
 ghost use lib.Seq.{sets};
-ghost use Rattle.machine.specs.Machine.{places};
+ghost use Rattle.machine.specs.Machine.{places, storedAt};
 ghost use Rattle.memory.specs.Memory.{sizesOf};
-ghost use Rattle.spans.specs.Parts.{Span, Part, placeIn};
-ghost use Rattle.storing.specs.Stores.{Stored};
+ghost use Rattle.spans.specs.Parts.{Span, Part, placeIn, placeBy};
 
 // Stores src, all of one page, from address x on in the page's frame.
 pub fn store_frame(head: Head, frame: u32, x: usize, src: &[u8], ram: &mut [u8])
@@ -26,7 +25,7 @@ pub fn store_frame(head: Head, frame: u32, x: usize, src: &[u8], ram: &mut [u8])
 // Stores src, all of one page that is mapped, from address x on. A table's word that is no frame is passed over.
 fn write_part(head: Head, space: u32, x: usize, src: &[u8], table: &[u32], ram: &mut [u8])
     requires { ⌜ Part head space x (length (now src)) (now ram) × (places (sizesOf head) ≤ length (now table)) ⌝ }
-    ensures { λ _. ⌜ Stored head space x (now (src .entry)) (now (table .entry)) (now (ram .entry)) (now (ram .exit)) ⌝ }
+    ensures { λ _. ⌜ now (ram .exit) ≡ storedAt (placeBy head space (now (table .entry))) x (now (src .entry)) (now (ram .entry)) ⌝ }
 {
     let frame = frame_at(head, space, x, table);
     if frame < head.frames {
@@ -37,7 +36,7 @@ fn write_part(head: Head, space: u32, x: usize, src: &[u8], table: &[u32], ram: 
 // Stores the bytes of a span, a page's part at a time.
 pub fn store(head: Head, space: u32, address: usize, bytes: &[u8], table: &[u32], ram: &mut [u8])
     requires { ⌜ Span head space address (length (now bytes)) (now ram) × (places (sizesOf head) ≤ length (now table)) ⌝ }
-    ensures { λ _. ⌜ Stored head space address (now (bytes .entry)) (now (table .entry)) (now (ram .entry)) (now (ram .exit)) ⌝ }
+    ensures { λ _. ⌜ now (ram .exit) ≡ storedAt (placeBy head space (now (table .entry))) address (now (bytes .entry)) (now (ram .entry)) ⌝ }
 {
     let n = bytes.len();
     let mut done = 0;

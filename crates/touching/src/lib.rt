@@ -1,21 +1,36 @@
-// Touching a page: the checks, then what they let through.
+// Touching a page: the checks, what they let through, and a new page's frame cleared.
 use checks::check;
 use checks::passes;
+use clearing::clear_frame;
 use lookup::see;
 use machine::Touched;
-use memory::ANY;
 use memory::Head;
 use memory::Lengths;
 use memory::TouchOut;
 use paging::touch_seen;
-ghost use mathlib.Core.List.{List};
+ghost use mathlib.Core.Path.{_≡_};
 ghost use Prim.Native.Nat.{ℕ};
 ghost use Rattle.machine.specs.Machine as machine;
+ghost use Rattle.machine.specs.declared.Touched.the-variants.{New};
 ghost use Rattle.machine.specs.Answers.{touchedSays};
 ghost use Rattle.memory.specs.Memory.{memory};
 ghost use Rattle.promise.specs.Did.{Did};
+ghost use Rattle.clearing.specs.Clears.{Frame};
+ghost use Rattle.paging.specs.Models.{clearedFor};
 
-// The page's frame, mapped if need be. It looks for itself: through `touch_checked` the compiler would hand the head over in memory.
+// Clears the frame of a page that was mapped.
+fn clear_new(head: Head, answer: Touched, ram: &mut [u8])
+    requires { ⌜ ((f w : ℕ) → answer ≡ New f w → Frame head f (now ram)) ⌝ }
+    ensures { λ _. ⌜ now (ram .exit) ≡ clearedFor head answer (now (ram .entry)) ⌝ }
+{
+    match answer {
+        Touched::New(frame, _) => clear_frame(head, frame, ram),
+        Touched::Old(_) => {}
+        Touched::Refused(_, _) => {}
+    }
+}
+
+// The page's frame, mapped if need be; a new page reads as zeros. It looks for itself: through `touch_checked` the compiler would hand the head over in memory.
 pub fn touch(
     head: Head,
     space: u32,
@@ -27,14 +42,15 @@ pub fn touch(
     stack: &mut [u32],
     cache: &mut [u32],
     link: &mut [u32],
+    ram: &mut [u8],
 ) -> TouchOut
-    ensures { λ r. ⌜ ((ram : List ℕ) →
+    ensures { λ r. ⌜
         Did (machine.touch space page)
         (memory head (now (index .entry)) (now (count .entry)) (now (table .entry)) (now (helper .entry)) (now (stack .entry)) (now (cache .entry))
-        (now (link .entry)) ram)
+        (now (link .entry)) (now (ram .entry)))
         (touchedSays (r .answer))
         (memory (r .head) (now (index .entry)) (now (count .exit)) (now (table .exit)) (now (helper .exit)) (now (stack .exit)) (now (cache .exit))
-        (now (link .exit)) ram)) ⌝ }
+        (now (link .exit)) (now (ram .exit))) ⌝ }
 {
     let lent = Lengths {
         index: index.len(),
@@ -44,7 +60,7 @@ pub fn touch(
         stack: stack.len(),
         cache: cache.len(),
         link: link.len(),
-        ram: ANY,
+        ram: ram.len(),
     };
     let inside = page < head.pages;
     if !passes(head, lent, space, inside) {
@@ -54,7 +70,7 @@ pub fn touch(
         };
     }
     let seen = see(head, space, page, index, count, table, helper, stack, cache);
-    touch_seen(
+    let out = touch_seen(
         head,
         space,
         page,
@@ -65,5 +81,8 @@ pub fn touch(
         stack,
         cache,
         link,
-    )
+    );
+    let answer = out.answer;
+    clear_new(head, answer, ram);
+    out
 }

@@ -12,7 +12,7 @@ use Rattle.lookup.specs.declared.Sight.the-variants.{Mapped}
 use Rattle.lookup.specs.Lookup.{seen-honest}
 use Rattle.promise.specs.Shown.{frameOf}
 use Rattle.lookup.specs.Sights.{frame-seen}
-use Rattle.paging.specs.Fits.{Touchable}
+use Rattle.paging.specs.Fits.{Touchable, RamLong}
 use Rattle.paging.specs.Touches.{did-resident}
 use Rattle.surveying.specs.Surveys.{AllResident}
 
@@ -32,9 +32,9 @@ module _ (k : Memory) (i : ℕ) where
 
   pub resident-touched : (first n : ℕ) → AllResident (k .head) i first (first + n) (k .count) (k .table) (k .helper) (k .stack) (k .cache)
       → ((b : ℕ) → b < first + n → Touchable (k .head) i b (k .index) (k .count) (k .table) (k .helper) (k .stack) (k .cache) (k .link))
-      → AllTouched i first k n k
-  resident-touched first zero all ready = none-touched
-  resident-touched first (suc n) all ready =
-      one-touched (resident-touched first n (λ b a c. all b a (omega arith)) (λ b c. ready b (omega arith)))
+      → RamLong (k .head) (k .ram) → AllTouched i first k n k
+  resident-touched first zero all ready long = none-touched
+  resident-touched first (suc n) all ready long =
+      one-touched (resident-touched first n (λ b a c. all b a (omega arith)) (λ b c. ready b (omega arith)) long)
       (did-resident (k .head) i (first + n) (k .index) (k .count) (k .table) (k .helper) (k .stack) (k .cache) (k .link)
-      (ready (first + n) (omega arith)) _ refl (all (first + n) (omega arith) (omega arith)) (k .ram))
+      (ready (first + n) (omega arith)) _ refl (all (first + n) (omega arith) (omega arith)) (k .ram) long)

@@ -2,41 +2,45 @@
 use mathlib.Core.Path.{_≡_, refl, sym, ap, ap₂, _∙_, subst}
 use mathlib.Core.Bool.{Bool, true, false, cond}
 use mathlib.Core.List.{List, [], _∷_}
-use Prim.Native.Nat.{ℕ, zero-le, _+_, _-_, _*_, _/_, _≤_, _<_}
+use mathlib.Core.Option.{none, some}
+use Prim.Native.Nat.{ℕ, zero-le, _+_, _-_, _*_, _/_, _%_, _≤_, _<_}
 use native.Mathlib.Nat.{add-sub-cancel-left}
 use native.Mathlib.Omega.{arith}
 use borrow.Author.Tests.{le-ltb}
 use lib.Dec.{ltb}
 use lib.ListN.{length}
 use lib.Seq.{sets}
-use Rattle.machine.specs.Machine.{Sizes, sizesOk, spaceBytes, places, placeOf, spanPages, State, anyOutside, countAbsent, write, asked, done, refused}
+use Rattle.machine.specs.Machine.{Sizes, sizesOk, spaceBytes, places, placeOf, pageOfAddress, spanPages, State, Lent, anyOutside, countAbsent, storedAt}
+use Rattle.machine.specs.Machine.{write, asked, done, refused}
 use Rattle.machine.specs.Laws.Sizes.{fit}
+use Rattle.machine.specs.Laws.Storing.{stored-alike}
 use Rattle.memory.specs.Memory.{Memory, withBytes, at, sizesOf, lengths}
 use Rattle.promise.specs.Holds.{Holds}
 use Rattle.promise.specs.Shown.{frameOf}
-use Rattle.promise.specs.Did.{Among, Words, Did}
-use Rattle.laws.specs.Models.{checkOf}
-use Rattle.laws.specs.Spans.{spanInside, writeLengths, AllTouched}
+use Rattle.promise.specs.Did.{Among, Did}
+use Rattle.laws.specs.Models.{checkOf, everyLength}
+use Rattle.laws.specs.Spans.{spanInside, AllTouched}
 use Rattle.laws.specs.SpanChecks.{write-check}
 use Rattle.lookup.specs.Ready.{Lookable}
-use Rattle.lookup.specs.Sights.{frame-is, lookable, still-ready}
+use Rattle.lookup.specs.Sights.{frame-is, lookable}
+use Rattle.memory.specs.declared.Head.{Head}
 use Rattle.paging.specs.Fits.{Touchable}
-use Rattle.spans.specs.Parts.{Span, Part, placeIn}
+use Rattle.spans.specs.Parts.{Span, Part, placeIn, placeBy}
 use Rattle.spans.specs.PartLaws.{one-page}
 use Rattle.surveying.specs.declared.Tally.{Tally}
 use Rattle.surveying.specs.declared.Tally.the-variants.{Absent, Refused}
 use Rattle.surveying.specs.Surveys.{AllResident, TallyIs, SpanSurveyed, settledBy, Settled}
-use Rattle.mapping.specs.Touches.{all-tables}
-use Rattle.storing.specs.Stores.{Stored}
-use Rattle.storing.specs.Frames.{frame-stored}
+use Rattle.mapping.specs.Touches.{all-sizes, touched-lengths}
+use Rattle.mapping.specs.Spans.{SpanTouched}
+use Rattle.storing.specs.Stores.{frame-stored}
 use Rattle.writing.specs.Writing.{SpanAdmitted, write-admitted, span-pages-inside, writeRefusal, spanRefusal, write-refused, write-done}
 use Rattle.writing.proofs.Resident.{resident-there, resident-touched}
 
 -- the number of the check
-pub number-is : (k : Memory) (i x : ℕ) (vs : List ℕ) {no : ℕ} {inside : Bool} → no ≡ checkOf (k .head) (writeLengths k) i inside
+pub number-is : (k : Memory) (i x : ℕ) (vs : List ℕ) {no : ℕ} {inside : Bool} → no ≡ checkOf (k .head) (everyLength k) i inside
     → inside ≡ spanInside (k .head) x (length vs)
     → no ≡ asked (sizesOf (k .head)) (write i x vs (lengths k))
-number-is k i x vs e inside-is = e ∙ ap (checkOf (k .head) (writeLengths k) i) inside-is ∙ write-check k i x vs
+number-is k i x vs e inside-is = e ∙ ap (checkOf (k .head) (everyLength k) i) inside-is ∙ write-check k i x vs
 
 -- the survey and the free frames settle it as the machine does
 settles-if : (b : Bool) → cond b 8 0 ≡ writeRefusal false b
@@ -47,6 +51,11 @@ settles : (m : State) (p n : ℕ) (s : Tally) → TallyIs m p n s
     → settledBy (length (m .pool)) s ≡ writeRefusal (anyOutside m p n) (ltb (length (m .pool)) (countAbsent m p n))
 settles m p n (Absent c) t = rw (t .0, t .1) (settles-if (ltb (length (m .pool)) (countAbsent m p n)))
 settles m p n (Refused c) t = rw (t .0) (t .1)
+
+-- where an address is by the page table hangs on the sizes alone
+place-by-sizes : (h h′ : Head) → sizesOf h ≡ sizesOf h′ → (i : ℕ) (table : List ℕ) (y : ℕ) → placeBy h i table y ≡ placeBy h′ i table y
+place-by-sizes h h′ e i table y =
+    ap (λ (z : Sizes). let f = at table (pageOfAddress z i y) in cond (ltb f (z .frames)) (some (f * z .page + y % z .page)) none) e
 
 -- a write that passed, and its span: so many pages from `first` on
 pub record Spanned (k : Memory) (i x : ℕ) (vs : List ℕ) (first pages : ℕ) : Type 0 where
@@ -76,11 +85,8 @@ module _ {k : Memory} {i x : ℕ} {vs : List ℕ} {first pages : ℕ} (s : Spann
   span-lookable =
       lookable (k .head) i (k .index) (k .count) (k .table) (k .helper) (k .stack) (k .cache) _ _ (admitted .sizes-ok) (admitted .space) (admitted .lent)
 
-  pub span-touchable : (b : ℕ) → b < first + pages → Touchable (k .head) i b (k .index) (k .count) (k .table) (k .helper) (k .stack) (k .cache) (k .link)
-  span-touchable b l = record { ready = span-lookable b (omega (arith, end-inside)); link-long = admitted .lent .link refl }
-
-  count-is : first + pages - first ≡ spanPages z x (length vs)
-  count-is = add-sub-cancel-left first pages ∙ s .pages-is
+  pub span-touchable : (b : ℕ) → b < k .head .pages → Touchable (k .head) i b (k .index) (k .count) (k .table) (k .helper) (k .stack) (k .cache) (k .link)
+  span-touchable b l = record { ready = span-lookable b l; link-long = admitted .lent .link refl }
 
   -- what the machine says of the span's pages
   refusal-is : (m : State) → Holds m k
@@ -122,11 +128,12 @@ module _ {k : Memory} {i x : ℕ} {vs : List ℕ} {first pages : ℕ} (s : Spann
           let here : first ≡ b = omega arith in
           subst (λ (c : ℕ). frameOf (k .head) i c (k .count) (k .table) (k .helper) (k .stack) (k .cache) < k .head .frames) here (omega (arith, is))
 
-      pub one-stored : {ram : List ℕ} → ram ≡ sets (k .ram) (placeIn (k .head) f x) vs → Stored (k .head) i x vs (k .table) (k .ram) ram
+      pub one-stored : {ram : List ℕ} → ram ≡ sets (k .ram) (placeIn (k .head) f x) vs → ram ≡ storedAt (placeBy (k .head) i (k .table)) x vs (k .ram)
       one-stored e =
-          frame-stored (k .head) i x vs (k .table) (k .ram) one-part f
+          e
+          ∙ frame-stored (k .head) i x vs (k .table) (k .ram) (one-part .fits) f
           (frame-is (k .head) i first (k .count) (k .table) (k .helper) (k .stack) (k .cache) is below
-          ∙ ap (λ (b : ℕ). at (k .table) (placeOf z i b)) (s .first-is)) below _ e
+          ∙ ap (λ (b : ℕ). at (k .table) (placeOf z i b)) (s .first-is)) below
 
   -- ---- where every page is resident: nothing is to be settled, and a touch of each leaves all as it is
 
@@ -143,38 +150,52 @@ module _ {k : Memory} {i x : ℕ} {vs : List ℕ} {first pages : ℕ} (s : Spann
               (rw (t .0, t .1) none) ∙ refusal-is m H;
         }
 
-    pub resident-stay : AllTouched i first k (first + pages - first) k
+    pub resident-stay : AllTouched i (x / sizesOf (k .head) .page) k (spanPages (sizesOf (k .head)) x (length vs)) k
     resident-stay =
-        subst (λ (n : ℕ). AllTouched i first k n k) (sym (add-sub-cancel-left first pages))
-        (resident-touched k i first pages all span-touchable)
+        subst (λ (b : ℕ). AllTouched i b k (spanPages z x (length vs)) k) (s .first-is)
+        (subst (λ (n : ℕ). AllTouched i first k n k) (s .pages-is)
+        (resident-touched k i first pages all (λ b l. span-touchable b (omega (arith, end-inside))) (admitted .lent .ram refl)))
 
   -- ---- once every page is touched
 
-  module _ {k₁ : Memory} (touched : AllTouched i first k (first + pages - first) k₁) where
-    sizes-stay : sizesOf (k₁ .head) ≡ sizesOf (k .head)
-    sizes-stay = all-tables touched .sizes
+  -- what the stores ask
+  pub span-there : Span (k .head) i x (length vs) (k .ram)
+  span-there = record { sizes-ok = admitted .sizes-ok; space = admitted .space; ends = admitted .fits; ram-long = admitted .lent .ram refl }
 
-    pub next-span : Span (k₁ .head) i x (length vs) (k .ram)
+  pub table-there : places (sizesOf (k .head)) ≤ length (k .table)
+  table-there = admitted .lent .table refl
+
+  pub written : {short : ℕ} → Decided k i x vs short → short ≡ 0 → {k₁ : Memory}
+      → AllTouched i (x / sizesOf (k .head) .page) k (spanPages (sizesOf (k .head)) x (length vs)) k₁
+      → {ram : List ℕ} → ram ≡ storedAt (placeBy (k₁ .head) i (k₁ .table)) x vs (k₁ .ram) → Did (write i x vs) k done (withBytes k₁ ram)
+  written d is-none {k₁} touched {ram} stores = write-done i x vs k (s .passes) k₁ ram touched (λ m H. sym is-none ∙ d .is m H) stores
+
+  module _ {k₁ : Memory} (t : SpanTouched i x (length vs) k k₁) where
+    same-sizes : sizesOf (k₁ .head) ≡ sizesOf (k .head)
+    same-sizes = all-sizes (t .touched)
+
+    same-lengths : lengths (withBytes k₁ (t .zeros)) ≡ lengths k
+    same-lengths = touched-lengths (t .touched)
+
+    pub next-span : Span (k₁ .head) i x (length vs) (k₁ .ram)
     next-span =
-        let back = sym sizes-stay in
+        let back = sym same-sizes in
         record {
           sizes-ok = subst (λ (y : Sizes). sizesOk y ≡ true) back (admitted .sizes-ok);
           space = subst (λ (y : Sizes). i < y .spaces) back (admitted .space);
           ends = subst (λ (y : Sizes). x + length vs ≤ spaceBytes y) back (admitted .fits);
-          ram-long = subst (λ (y : Sizes). y .frames * y .page ≤ length (k .ram)) back (admitted .lent .ram refl);
+          ram-long =
+              omega (arith, admitted .lent .ram refl, t .alike .long, ap (λ (l : Lent). l .ram) same-lengths, ap (λ (y : Sizes). y .frames * y .page) same-sizes);
         }
 
-    next-lookable : Lookable (k₁ .head) i (k₁ .index) (k₁ .count) (k₁ .table) (k₁ .helper) (k₁ .stack) (k₁ .cache)
-    next-lookable b l = still-ready (all-tables touched) (span-lookable b (subst (λ (y : Sizes). b < y .pages) sizes-stay l))
-
     pub next-table : places (sizesOf (k₁ .head)) ≤ length (k₁ .table)
-    next-table = next-lookable 0 (fit (sizesOf (k₁ .head)) (next-span .sizes-ok) .some-pages) .table-long
+    next-table = omega (arith, table-there, ap places same-sizes, ap (λ (l : Lent). l .table) same-lengths)
 
-    pub written : {short : ℕ} → Decided k i x vs short → short ≡ 0 → {ram : List ℕ} → Stored (k₁ .head) i x vs (k₁ .table) (k .ram) ram
+    -- the bytes are stored over all that wasn't cleared
+    pub written-over : {short : ℕ} → Decided k i x vs short → short ≡ 0 → {ram : List ℕ} → ram ≡ storedAt (placeBy (k₁ .head) i (k₁ .table)) x vs (k₁ .ram)
         → Did (write i x vs) k done (withBytes k₁ ram)
-    written d none {ram} stores =
-        write-done i x vs k (s .passes) k₁ ram
-        (subst (λ (b : ℕ). AllTouched i b k (spanPages z x (length vs)) k₁) (s .first-is) (subst (λ (n : ℕ). AllTouched i first k n k₁) count-is touched))
-        (subst (λ (y : Sizes). Words (length vs) (y .frames * y .page) (k .ram) ram) sizes-stay (stores .words))
-        (λ m H. sym none ∙ d .is m H)
-        (λ m H on. stores .honest (k₁ .index) (k₁ .count) (k₁ .helper) (k₁ .stack) (k₁ .cache) (k₁ .link) (k₁ .ram) m H on)
+    written-over d is-none stores =
+        written d is-none (t .touched)
+        (stores
+        ∙ stored-alike (placeBy (k₁ .head) i (k₁ .table)) x vs (t .zeros) (k₁ .ram) (t .alike .long)
+        (λ p free. t .alike .same p (λ j l e. free j l (place-by-sizes (k₁ .head) (k .head) same-sizes i (k₁ .table) (x + j) ∙ e))))

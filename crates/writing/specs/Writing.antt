@@ -10,20 +10,22 @@ use lib.Dec.{leb, ltb}
 use lib.ListN.{length}
 use Rattle.places.specs.Laws.{div-mono}
 use Rattle.machine.specs.Machine.{Sizes, sizesOk, spaceBytes, State, pageOfAddress, spanPages, Lent, uses, enough, write, asked, refused, done, tell}
-use Rattle.machine.specs.Machine.{countAbsent, stored, storeAll, spanTouched, spanOutside, spanShort, writeIf, writeAt, accepted, after}
+use Rattle.machine.specs.Machine.{countAbsent, storedAt, stored, storeAll, spanTouched, spanOutside, spanShort, writeIf, writeAt, accepted, after}
 use Rattle.machine.specs.Laws.Sizes.{both, Fit, fit, some-bytes, passed, page-below}
-use Rattle.machine.specs.Laws.Bytes.{in-pages}
+use Rattle.machine.specs.Laws.Shows.{in-pages}
 use Rattle.machine.specs.Laws.Stays.{IsMapped, grown-all-touched, span-mapped}
 use Rattle.memory.specs.Memory.{Memory, withBytes, sizesOf, lengths}
 use Rattle.promise.specs.Holds.{Holds}
-use Rattle.promise.specs.Did.{Among, Words, Maps, Did}
+use Rattle.promise.specs.Did.{Among, Words, Writes, Did}
+use Rattle.promise.specs.Refuses.{words-same}
 use Rattle.laws.specs.Bytes.{bytes-hold}
 use Rattle.laws.specs.Spans.{AllTouched}
 use Rattle.laws.specs.Refusals.{Long, long, passed-step}
 use Rattle.laws.specs.Passing.{every-long}
 use Rattle.laws.specs.Told.{from-four, told-did}
-use Rattle.mapping.specs.Touches.{all-maps, all-tables, all-touched-holds}
-use Rattle.storing.specs.Storing.{SpanMapped}
+use Rattle.mapping.specs.Touches.{all-writes, all-touched-holds}
+use Rattle.spans.specs.Parts.{placeBy}
+use Rattle.storing.specs.Stores.{SpanMapped, span-words, span-stored}
 
 -- ---- the check
 
@@ -77,25 +79,6 @@ none-refused false false e = (refl, refl)
 
 -- ---- the promise
 
--- the stores reach only the RAM
-then-stored : {z : Sizes} {i b n : ℕ} {k k₁ : Memory} (ram : List ℕ) → Maps z i b n k k₁ → Maps z i b n k (withBytes k₁ ram)
-then-stored ram t =
-    record {
-      mapped = t .mapped;
-      taken = t .taken;
-      few = t .few;
-      none = t .none;
-      shown = t .shown;
-      sizes = t .sizes;
-      index = t .index;
-      count = t .count;
-      table = t .table;
-      helper = t .helper;
-      stack = t .stack;
-      cache = t .cache;
-      link = t .link;
-    }
-
 module _ (i x : ℕ) (vs : List ℕ) (k : Memory) (passes : asked (sizesOf (k .head)) (write i x vs (lengths k)) ≡ 0) where
   asked-of : (m : State) → Holds m k → asked (m .sizes) (write i x vs (lengths k)) ≡ 0
   asked-of m h = ap (λ z. asked z (write i x vs (lengths k))) (sym (h .sizes-are)) ∙ passes
@@ -110,9 +93,8 @@ module _ (i x : ℕ) (vs : List ℕ) (k : Memory) (passes : asked (sizesOf (k .h
   -- the memory after the touches, and the RAM after the stores
   module _ (k₁ : Memory) (ram : List ℕ)
       (touched : AllTouched i (x / sizesOf (k .head) .page) k (spanPages (sizesOf (k .head)) x (length vs)) k₁)
-      (words : Words (length vs) (sizesOf (k .head) .frames * sizesOf (k .head) .page) (k .ram) ram)
       (settled : (m : State) → Holds m k → 0 ≡ spanRefusal m i x (length vs))
-      (stores : (m₁ : State) → Holds m₁ k₁ → SpanMapped m₁ i x (length vs) → ram ≡ stored m₁ i x vs (k .ram)) where
+      (stores : ram ≡ storedAt (placeBy (k₁ .head) i (k₁ .table)) x vs (k₁ .ram)) where
     honest : (m : State) → Holds m k → Holds (storeAll (spanTouched m i x (length vs)) i x vs) (withBytes k₁ ram)
     honest m h =
         let z = m .sizes in
@@ -122,7 +104,6 @@ module _ (i x : ℕ) (vs : List ℕ) (k : Memory) (passes : asked (sizesOf (k .h
         let m₁ = spanTouched m i x n in
         let a = write-admitted z i x vs (lengths k) (asked-of m h) in
         let f = fit z (a .sizes-ok) in
-        let t = all-tables touched in
         let h₁ = all-touched-holds m h (every-long _ z (lengths k) (a .lent)) (a .space) (span-pages-inside z f x n (a .fits))
         (subst (λ y. AllTouched i (x / y .page) k (spanPages y x n) k₁) (h .sizes-are) touched) in
         let g = grown-all-touched m p q (h .sound) .sizes-same in
@@ -132,8 +113,45 @@ module _ (i x : ℕ) (vs : List ℕ) (k : Memory) (passes : asked (sizesOf (k .h
         let b = in-pages z i x n (x + j) (some-bytes z f) (omega arith) (omega arith) in
         subst (IsMapped m₁) (b .2 ∙ ap (λ y. pageOfAddress y i (x + j)) (sym g))
         (span-mapped m p q (h .sound) (s .0) (ltb-false (length (m .pool)) (countAbsent m p q) (s .1)) (b .0) (b .1)) in
-        let is : stored m₁ i x vs (m₁ .ram) ≡ ram = ap (stored m₁ i x vs) (sym (h₁ .ram-is) ∙ t .ram) ∙ sym (stores m₁ h₁ mapped) in
+        let is : stored m₁ i x vs (m₁ .ram) ≡ ram =
+        ap (stored m₁ i x vs) (sym (h₁ .ram-is)) ∙ sym (span-stored m₁ k₁ h₁ i x vs (k₁ .ram) mapped) ∙ sym stores in
         rw is (bytes-hold m₁ k₁ ram h₁)
+
+    -- the touches' words and clearing, and the bytes of the span
+    bounds : Writes (sizesOf (k .head)) i (x / sizesOf (k .head) .page) (spanPages (sizesOf (k .head)) x (length vs)) (length vs) k (withBytes k₁ ram)
+    bounds =
+        let z = sizesOf (k .head) in
+        let w = all-writes touched in
+        let t = w .maps in
+        let pos = some-bytes z (fit z (write-admitted z i x vs (lengths k) passes .sizes-ok)) in
+        record {
+          maps =
+              record {
+                mapped = t .mapped;
+                taken = t .taken;
+                few = t .few;
+                none = t .none;
+                shown = t .shown;
+                sizes = t .sizes;
+                index = t .index;
+                count = t .count;
+                table = t .table;
+                helper = t .helper;
+                stack = t .stack;
+                cache = t .cache;
+                link = t .link;
+              };
+          fills =
+              record {
+                frames = w .fills .frames;
+                one-each = w .fills .one-each;
+                below = w .fills .below;
+                stored =
+                    rw (stores, ← words-same refl (w .fills .stored))
+                    (subst (λ (y : Sizes). Words (length vs) (y .frames * y .page) (k₁ .ram) (storedAt (placeBy (k₁ .head) i (k₁ .table)) x vs (k₁ .ram))) (t .sizes)
+                    (span-words (k₁ .head) i x vs (k₁ .table) (k₁ .ram) (subst (λ (y : Sizes). 0 < y .page) (sym (t .sizes)) pos)));
+              };
+        }
 
     pub write-done : Did (write i x vs) k done (withBytes k₁ ram)
     unfolding accepted
@@ -141,7 +159,7 @@ module _ (i x : ℕ) (vs : List ℕ) (k : Memory) (passes : asked (sizesOf (k .h
         record {
           asks = rw passes refl;
           stays = λ e. absurd (let z : _≡_ {A = ℕ} 0 1 = cc in omega arith);
-          bounds = record { maps = then-stored ram (all-maps touched .0); ram = words };
+          bounds = bounds;
           honest = λ m h.
               let s = none-refused (spanOutside m i x (length vs)) (spanShort m i x (length vs)) (settled m h) in
               let accepts : writeAt m i x vs ≡ writeIf m i x vs false false = rw (s .0, s .1) in

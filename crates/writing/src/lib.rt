@@ -1,5 +1,5 @@
-// Writing bytes through the pager: regions and pool are settled before the first touch, then every page is
-// touched, then the bytes are stored. A span whose pages are all resident goes straight to the stores, one of a single page without a loop.
+// Writing bytes through the pager: regions and pool are settled before the first touch, then every page is touched and new frames cleared
+// around the span, then the bytes are stored. A span whose pages are all resident goes straight to the stores, one of a single page without a loop.
 use checks::check;
 use checks::span_inside;
 use lookup::frame_of;
@@ -111,8 +111,8 @@ pub fn write(
     let next = touch_all(
         head,
         space,
-        first,
-        end,
+        address,
+        n,
         index,
         count,
         table,
@@ -120,6 +120,7 @@ pub fn write(
         stack,
         cache,
         link,
+        ram,
     );
     store(next, space, address, bytes, table, ram);
     WriteOut {

@@ -1,13 +1,14 @@
--- A byte stored in a sequence and spared since is in the machine's RAM, where its address is.
+-- A byte stored in a sequence and spared since is what its address shows in the machine.
 use mathlib.Core.Path.{_≡_, refl, sym, ap, _∙_, subst}
 use mathlib.Core.List.{List, [], _∷_, _++_}
+use mathlib.Core.Option.{some}
 use Prim.Native.Nat.{ℕ, _*_, _≤_}
 use native.Mathlib.Omega.{arith}
 use lib.ListN.{length}
 use Rattle.machine.specs.Machine.{Sizes, State, write, asked, done, withRam, answer, after, afterAll}
-use Rattle.machine.specs.Claims.{Address, Stored}
+use Rattle.machine.specs.Claims.{Address, shows}
 use Rattle.machine.specs.Laws.Bytes.{wrote, write-stores}
-use Rattle.machine.specs.Laws.Calls.{step-sound, history-leaves, may-change}
+use Rattle.machine.specs.Laws.Calls.{step-sound, step-ram-long, history-leaves, may-change}
 use Rattle.memory.specs.Memory.{Memory, sizesOf, lengths}
 use Rattle.promise.specs.Holds.{Holds}
 use Rattle.demands.specs.History.{Event, played, calls, Step, lent-front, lent-short, Run, next}
@@ -25,10 +26,10 @@ unfolding afterAll
 after-append m [] e later = refl
 after-append m (x ∷ before) e later = after-append (after m (played x)) before e later
 
--- the address, and the byte
+-- the address, and its byte
 pub record There (m : State) (i x v : ℕ) : Type 0 where
   pub here : Address (m .sizes) i x
-  pub stored : Stored m i x v
+  pub shown : shows m i x ≡ some v
 
 module _ (n : State) (k k′ : Memory) (es : List Event) (q : Sequence n k es k′) (i x v : ℕ) (s : StoredAt n k es i x v) where
   wrote-event : Event
@@ -60,13 +61,15 @@ module _ (n : State) (k k′ : Memory) (es : List Event) (q : Sequence n k es k�
       let w = wrote m i (s .from) (s .values) (s .lent) (sym (step-follows m k₁ wrote-event k₂ H one .answer-is)) in
       let room : m .sizes .frames * m .sizes .page ≤ length (m .ram) = omega (arith, wrote-room m k₁ k₂ H one, ap length (H .ram-is)) in
       let b = write-stores m i (s .from) (s .values) (after m c) x (H .sound) room w (s .low) (s .high) in
-      let here = subst (λ (y : Sizes). Address y i x) (sym (may-change m c (H .sound) .sizes))
+      let same = may-change m c (H .sound) .sizes in
+      let still : after m c .sizes .frames * after m c .sizes .page ≤ length (after m c .ram) =
+      omega (arith, room, step-ram-long m c (H .sound), ap (λ (y : Sizes). y .frames * y .page) same) in
+      let here = subst (λ (y : Sizes). Address y i x) (sym same)
       (record { space = w .space; inside = omega (arith, w .fits, s .high) }) in
-      let r = history-leaves (after m c) (calls (s .later)) i x _ (step-sound m c (H .sound)) here b (s .spared) in
+      let r = history-leaves (after m c) (calls (s .later)) i x _ (step-sound m c (H .sound)) still here b (s .spared) in
       subst (λ (y : State). There y i x v)
       (sym (ap (λ (xs : List Event). machineAt n k xs) (s .is-history) ∙ after-append (withRam n (k .ram)) (s .before) wrote-event (s .later)))
       (record {
         here = subst (λ (y : Sizes). Address y i x) (sym (r .1)) here;
-        stored = subst
-            (λ (y : ℕ). Stored (afterAll (after m c) (calls (s .later))) i x y) (s .value-is) (r .0);
+        shown = r .0 ∙ ap some (s .value-is);
       })

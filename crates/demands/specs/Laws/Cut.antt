@@ -3,19 +3,25 @@ use mathlib.Core.Path.{_≡_, refl, sym, ap, ap₂, _∙_, fun-ext}
 use mathlib.Core.Bool.{Bool, true, false}
 use mathlib.Core.Option.{Option, none, some}
 use mathlib.Core.List.{List, [], _∷_, _++_, append-nil}
-use Prim.Native.Nat.{ℕ, zero, suc, _+_, _*_, _≤_}
+use Prim.Native.Nat.{ℕ, zero, suc, _+_, _*_, _≤_, _<_}
 use native.Mathlib.Omega.{arith}
 use lib.ListN.{length, take, drop, length-set, take-append-drop}
 use lib.Seq.{length-take-le, take-length, drop-length, getD-take, set-append-left}
 use Rattle.sequence.specs.Lists.{tabulate}
-use Rattle.machine.specs.Machine.{Sizes, State, Lent, pageOfAddress, spanPages, ramAt, Call, read, write, asked, Answer, bytes, Out, tell, spanAbsence}
-use Rattle.machine.specs.Machine.{byteIn, byteAt, readIf, storeIn, stored, withRam, storeAll, spanTouched, spanOutside, spanShort, writeIf, refusal, accepted}
+use Rattle.sequence.specs.Sums.{hit-same}
+use Rattle.machine.specs.declared.PageCall.the-variants.{Touch}
+use Rattle.machine.specs.Machine.{Sizes, State, Lent, Page, outside, unmapped, mapped, placeOf, pageOf, wordsAt, pageOfAddress, spanPages, ramAt, Call, page}
+use Rattle.machine.specs.Machine.{read, write, asked, Answer, bytes, Out, tell, withPair, touchNew, touchPage, touchAt, touchAll, spanAbsence}
+use Rattle.machine.specs.Machine.{byteIn, byteAt, readIf, storeIn, storedAt, stored, withRam, storeAll, spanTouched, spanOutside, spanShort, writeIf, refusal, accepted}
 use Rattle.machine.specs.Machine.{unless, step, answer, after}
 use Rattle.machine.specs.Claims.{Sound}
-use Rattle.machine.specs.Laws.Steps.{sound-all-touched}
-use Rattle.machine.specs.Laws.Stays.{grown-all-touched}
+use Rattle.machine.specs.Laws.Kept.{sound-stored}
+use Rattle.machine.specs.Laws.Steps.{sound-touched, sound-all-touched}
+use Rattle.machine.specs.Laws.Stays.{grown-touched, grown-all-touched}
 use Rattle.machine.specs.Laws.Holders.{ram-below}
-use Rattle.machine.specs.Laws.Unseen.{absence-any, outside-any, absent-any, touched-any, stored-any}
+use Rattle.machine.specs.Laws.Unseen.{absence-any, outside-any, absent-any}
+use Rattle.machine.specs.Laws.Zeroed.{zeroed-front}
+use Rattle.pool.specs.Pool.{free-below}
 
 -- the machine with its RAM cut after n bytes, and with bytes put behind its RAM
 abbrev pub cut : ℕ → State → State
@@ -62,17 +68,57 @@ module _ (m : State) (s : Sound m) where
 
   stored-front : (i x : ℕ) (vs part rest : List ℕ) → m .sizes .frames * m .sizes .page ≤ length part
       → stored m i x vs (part ++ rest) ≡ stored m i x vs part ++ rest
-  unfolding stored
+  unfolding storedAt
   stored-front i x [] part rest h = refl
   stored-front i x (v ∷ vs) part rest h =
       let f = store-front i x v part rest h in
       ap (stored m i (suc x) vs) (f .0) ∙ stored-front i (suc x) vs (storeIn part (ramAt m i x) v) rest (omega (arith, f .1))
 
--- ---- read and write, the calls that are lent the RAM
+-- ---- touches, with bytes put behind the RAM
+
+module _ (rest : List ℕ) where
+  touch-mended : (m : State) → Sound m → m .sizes .frames * m .sizes .page ≤ length (m .ram) → (p w : ℕ) (g : Page)
+      → touchPage (mended m rest) p w g .after ≡ mended (touchPage m p w g .after) rest
+  touch-mended m s room p w outside = refl
+  touch-mended m s room p w (mapped a f) = refl
+  touch-mended m s room p w (unmapped a) = go (m .pool) refl
+    where
+      go : (pool : List ℕ) → m .pool ≡ pool → touchNew (mended m rest) a p w pool .after ≡ mended (touchNew m a p w pool .after) rest
+      go [] e = refl
+      go (f ∷ fs) e = ap (withRam (withPair m a p f fs)) (zeroed-front (m .sizes) f (m .ram) rest (first-below e) room)
+        where
+          first-below : m .pool ≡ f ∷ fs → f < m .sizes .frames
+          first-below e = free-below m s f (rw e (omega (arith, hit-same f f refl)))
+
+  all-touched-mended : (m : State) → Sound m → m .sizes .frames * m .sizes .page ≤ length (m .ram) → (p k : ℕ)
+      → touchAll (mended m rest) p k ≡ mended (touchAll m p k) rest
+  unfolding touchAll
+  all-touched-mended m s room p zero = refl
+  all-touched-mended m s room p (suc k) =
+      let w = wordsAt m p in
+      let g = grown-touched m s p w in
+      ap (λ (x : State). touchAll x (suc p) k) (touch-mended m s room p w (pageOf m p))
+      ∙ all-touched-mended (touchAt m p .after) (sound-touched m s p w)
+      (omega (arith, room, g .ram-size, ap (λ (z : Sizes). z .frames * z .page) (g .sizes-same))) (suc p) k
+
+-- the answer doesn't look at the RAM
+touch-told : (m : State) (ram : List ℕ) (p w : ℕ) (g : Page) → touchPage (withRam m ram) p w g .answer ≡ touchPage m p w g .answer
+touch-told m ram p w outside = refl
+touch-told m ram p w (mapped a f) = refl
+touch-told m ram p w (unmapped a) = go (m .pool)
+  where
+    go : (pool : List ℕ) → touchNew (withRam m ram) a p w pool .answer ≡ touchNew m a p w pool .answer
+    go [] = refl
+    go (f ∷ fs) = refl
+
+-- ---- touch, read and write, the calls that are lent the RAM
 
 module _ (m : State) (s : Sound m) (n : ℕ) (enough : m .sizes .frames * m .sizes .page ≤ n) where
+  whole : mended (cut n m) (drop n (m .ram)) ≡ m
+  whole = ap (withRam m) (take-append-drop n (m .ram))
+
   told : (a a′ : Answer) → a ≡ a′ → SameOut n m (tell (cut n m) a) (tell m a′)
-  told a a′ e = record { answers = e; mends = ap (withRam m) (take-append-drop n (m .ram)) }
+  told a a′ e = record { answers = e; mends = whole }
 
   -- the checks don't look at the RAM
   same-checked : (c : Call) → SameOut n m (accepted (cut n m) c) (accepted m c) → SameCut n m c
@@ -95,26 +141,44 @@ module _ (m : State) (s : Sound m) (n : ℕ) (enough : m .sizes .frames * m .siz
         (told _ _ (ap (readIf (cut n m) i x count) (absence-any (take n (m .ram)) m _ (spanPages (m .sizes) x count)) ∙ read-front count
         (spanAbsence m i x count)))
 
-    module _ (vs : List ℕ) (fits : n ≤ length (m .ram)) where
+  module _ (fits : n ≤ length (m .ram)) where
+    sound-cut : Sound (cut n m)
+    sound-cut = sound-stored m s (take n (m .ram))
+
+    cut-room : m .sizes .frames * m .sizes .page ≤ length (take n (m .ram))
+    cut-room = omega (arith, enough, length-take-le n (m .ram) fits)
+
+    pub same-touch : (i b : ℕ) (l : Lent) → SameCut n m (page Touch i b l)
+    unfolding accepted
+    same-touch i b l =
+        let p = placeOf (m .sizes) i b in
+        let w = wordsAt m p in
+        same-checked (page Touch i b l)
+        (record {
+          answers = touch-told m (take n (m .ram)) p w (pageOf m p);
+          mends =
+              sym (touch-mended (drop n (m .ram)) (cut n m) sound-cut cut-room p w (pageOf m p))
+              ∙ ap (λ (y : State). touchPage y p w (pageOf m p) .after) whole;
+        })
+
+    module _ (i x : ℕ) (vs : List ℕ) where
       written-front : (a b : Bool) → SameOut n m (writeIf (cut n m) i x vs a b) (writeIf m i x vs a b)
       written-front true b = told _ _ refl
       written-front false true = told _ _ refl
       written-front false false =
           let p = pageOfAddress (m .sizes) i x in
           let k = spanPages (m .sizes) x (length vs) in
-          let m₁ = spanTouched m i x (length vs) in
-          let front = take n (m .ram) in
+          let c = touchAll (cut n m) p k in
           let rest = drop n (m .ram) in
-          let g = grown-all-touched m p k s in
-          let long = length-take-le n (m .ram) fits in
+          let g = grown-all-touched (cut n m) p k sound-cut in
           record {
             answers = refl;
             mends =
-                ap (λ (y : State). mended (storeAll y i x vs) rest) (touched-any front m p k)
-                ∙ ap (λ (ram : List ℕ). withRam m₁ (ram ++ rest)) (stored-any front m₁ i x vs front)
-                ∙ ap (withRam m₁)
-                (sym (stored-front m₁ (sound-all-touched m p k s) i x vs front rest (omega (arith, ap (λ (z : Sizes). z .frames * z .page) (g .sizes-same))))
-                ∙ ap (stored m₁ i x vs) (take-append-drop n (m .ram) ∙ sym (g .ram-same)));
+                ap (withRam c)
+                (sym (stored-front c (sound-all-touched (cut n m) p k sound-cut) i x vs (c .ram) rest
+                (omega (arith, cut-room, g .ram-size, ap (λ (z : Sizes). z .frames * z .page) (g .sizes-same)))))
+                ∙ ap (λ (y : State). storeAll y i x vs)
+                (sym (all-touched-mended rest (cut n m) sound-cut cut-room p k) ∙ ap (λ (y : State). touchAll y p k) whole);
           }
 
       pub same-write : (l : Lent) → SameCut n m (write i x vs l)

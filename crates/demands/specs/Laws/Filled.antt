@@ -10,6 +10,7 @@ use Rattle.laws.specs.Bytes.{bytes-hold}
 use Rattle.demands.specs.History.{Event, played, calls}
 use Rattle.demands.specs.Outside.{Turn, called, Course, none, call, fill, made, answersIn, afterIn}
 use Rattle.demands.specs.Laws.Step.{step-follows}
+use Rattle.machine.specs.Laws.Unseen.{likewise-blind}
 use Rattle.machine.specs.Laws.Calls.{alike}
 
 -- of the machine m with another RAM, beside m itself that nobody wrote to
@@ -33,7 +34,7 @@ course-follows m ram H (call {k = k} {k₁ = k₁} {e = e} {ts = ts} s c) =
     record {
       answers-are = ap₂ _∷_ (f .answer-is) (r .answers-are ∙ ap (λ (x : State). answersIn x ts) (sym (a .states)));
       holds = rw same (r .holds);
-      answers-alike = ap₂ _∷_ (ap blind (f .answer-is) ∙ a .answers) (r .answers-alike);
+      answers-alike = ap₂ _∷_ (ap blind (f .answer-is) ∙ likewise-blind (a .answers)) (r .answers-alike);
       state-alike = same ∙ r .state-alike ∙ ap (λ (x : State). withRam (afterAll m (calls (made (called e ∷ ts)))) (x .ram)) (sym same);
     }
 course-follows m ram H (fill {k = k} {ts = ts} ram₁ c) =

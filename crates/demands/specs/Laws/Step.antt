@@ -17,7 +17,7 @@ use Rattle.laws.specs.Refusals.{Long, passed-step, refused-step, refusal-still,
 use Rattle.laws.specs.Lengths.{lengths-stay, sizes-stay}
 use Rattle.demands.specs.History.{front, rejoined, Lends, Parts, Carries, Event, played, FrontStep, ShortStep, Step, lent-front, lent-short}
 use Rattle.demands.specs.Laws.Parts.{lengths-front, rejoined-front}
-use Rattle.demands.specs.Laws.Cut.{cut, SameCut, same-whole, same-read, same-write}
+use Rattle.demands.specs.Laws.Cut.{cut, SameCut, same-whole, same-read, same-touch, same-write}
 use Rattle.demands.specs.Laws.Agree.{front-holds, rejoined-holds}
 use Rattle.demands.specs.Laws.Lent.{asked-long}
 
@@ -105,13 +105,13 @@ module _ (k : Memory) (n : Lent) (a : Answer) (part : Memory) where
     lent-ram (start z l) e r h = absurd (false≢true e)
     lent-ram (page Mark i b l) e r h = absurd (false≢true e)
     lent-ram (page Drop i b l) e r h = absurd (false≢true e)
-    lent-ram (page Touch i b l) e r h = absurd (false≢true e)
+    lent-ram (page Touch i b l) e r h = same-touch m (H .sound) (n .ram) r (omega (arith, ap length (H .ram-is))) i b l
     lent-ram (page Look i b l) e r h = absurd (false≢true e)
     lent-ram (page Release i b l) e r h = absurd (false≢true e)
     lent-ram free e r h = absurd (false≢true e)
     lent-ram (translate i x l) e r h = absurd (false≢true e)
     lent-ram (read i x count l) e r h = same-read m (H .sound) (n .ram) r i x count l
-    lent-ram (write i x vs l) e r h = same-write m (H .sound) (n .ram) r i x vs (omega (arith, ap length (H .ram-is))) l
+    lent-ram (write i x vs l) e r h = same-write m (H .sound) (n .ram) r (omega (arith, ap length (H .ram-is))) i x vs l
     lent-ram (list i room l) e r h = absurd (false≢true e)
 
     same-cut : (c : Call) → Long (uses c) (m .sizes) n → Lends (uses c .ram) (n .ram) (length (k .ram)) → SameCut (n .ram) m c

@@ -1,38 +1,46 @@
 -- What each call keeps, one entry a call; from it what any call keeps, and any history.
-use mathlib.Core.Path.{_≡_, refl, sym, ap, _∙_, subst}
-use mathlib.Core.Bool.{true, false, _&&_, false≢true}
+use mathlib.Core.Path.{_≡_, refl, sym, ap, ap₂, _∙_, subst}
+use mathlib.Core.Bool.{Bool, true, false, not, _&&_, _||_, false≢true}
 use mathlib.Core.Option.{Option, none, some}
 use mathlib.Core.List.{List, [], _∷_}
-use Prim.Native.Nat.{ℕ, zero, suc, _+_}
+use Prim.Native.Nat.{ℕ, zero, suc, _+_, _*_, _≤_}
 use native.Mathlib.Omega.{arith}
 use borrow.Author.Tests.{ltb-true, leb-true}
-use lib.Dec.{ltb, leb}
+use lib.Dec.{eqb, ltb, leb}
 use lib.ListN.{length}
 use Rattle.machine.specs.declared.PageCall.{PageCall}
 use Rattle.machine.specs.declared.PageCall.the-variants.{Mark, Drop, Touch, Look, Release}
-use Rattle.machine.specs.Machine.{Sizes, placeOf, sizesOk, spaceBytes, State, Lent, isStart, startOf, wordsAt, pageOf, enough, Call, start, page, free}
-use Rattle.machine.specs.Machine.{translate, read, write, list, uses, facts, pageFacts, everyBuffer, lends, lentOk, refusal, asked, Kind, ended}
-use Rattle.machine.specs.Machine.{touched, looked, released, counted, translated, copied, listed, refusalOf, Answer, done, Out, tell, withRam}
-use Rattle.machine.specs.Machine.{spanOutside, spanShort, accepted, unless, step, answer, after, afterAll}
-use Rattle.machine.specs.Claims.{Sound, Address, isDone, isRefused, aims, ends, Spared, Stored, MayChangeBy, MayChange}
+use Rattle.machine.specs.Machine.{Sizes, placeOf, sizesOk, spaceBytes, spanPages, pageOfAddress, State, Lent, isStart, startOf, wordsAt, pageOf, enough}
+use Rattle.machine.specs.Machine.{Call, start, page, free, translate, read, write, list, uses, facts, pageFacts, tablesAndRam, everyBuffer, lends, lentOk}
+use Rattle.machine.specs.Machine.{refusal, sizesBy, sizesFor, asked, Effect, unchanged, prepared, startPut, pageMapped, regionEmptied, spanStored, Kind}
+use Rattle.machine.specs.Machine.{ended, touched, looked, released, counted, translated, copied, listed, refusalOf, Answer, done, Out, tell, withRam}
+use Rattle.machine.specs.Machine.{markAt, dropAt, spanOutside, spanShort, accepted, unless, step, answer, after, afterAll}
+use Rattle.machine.specs.Claims.{Sound, Address, isRefused, shows, orZero, inRun, isBeginning, aimsAt, aims, ends, showsBy, showsFrom, showsAfter, Spared}
+use Rattle.machine.specs.Claims.{MayChangeBy, MayChange}
 use Rattle.machine.specs.Laws.Sizes.{both, passed}
 use Rattle.machine.specs.Laws.Kept.{sound-begun}
-use Rattle.machine.specs.Laws.Steps.{sound-marked-or-not, sound-dropped-or-not, sound-touched, sound-released-or-not, sound-written, page-place}
+use Rattle.machine.specs.Laws.Steps.{sound-marked-or-not, sound-dropped-or-not, sound-touched, sound-released-or-not, sound-written, touch-sizes}
+use Rattle.machine.specs.Laws.Steps.{write-sizes, page-place}
 use Rattle.machine.specs.Laws.Changes.{KeptIfRefused, mark-kept, drop-kept, touch-kept, release-kept, write-kept, mark-start, drop-start, touch-region}
 use Rattle.machine.specs.Laws.Changes.{release-region, write-span, may-stay}
-use Rattle.machine.specs.Laws.Bytes.{Leaves, leaves-told, leaves-marked-or-not, leaves-dropped-or-not, leaves-touched, leaves-released-or-not}
-use Rattle.machine.specs.Laws.Bytes.{leaves-written}
-use Rattle.machine.specs.Laws.Unseen.{Alike, told-alike, mark-alike, drop-alike, touch-alike, release-alike, read-alike, write-alike, list-alike}
+use Rattle.machine.specs.Laws.Shows.{shows-started, touched-shows, released-shows, written-shows}
+use Rattle.machine.specs.Laws.Unseen.{Alike, same-answer, told-alike, mark-alike, drop-alike, touch-alike, release-alike, read-alike, write-alike, list-alike}
+
+-- the RAM is long enough for the sizes that the call's buffers are to be long enough for
+abbrev pub RamRoom : State → Call → Type 0
+RamRoom m c = let z = sizesFor (m .sizes) c in z .frames * z .page ≤ length (m .ram)
 
 pub record Lawful (m : State) (c : Call) : Type 0 where
   pub sound : Sound m → Sound (accepted m c .after)
   pub keeps : KeptIfRefused m (accepted m c)
+  pub sizes : accepted m c .after .sizes ≡ sizesFor (m .sizes) c
   pub changes : Sound m → MayChangeBy m (facts c .change) (accepted m c .after)
-  -- a call that doesn't end the byte v at address x of space i leaves it
-  pub leaves : (i x v : ℕ) → Sound m → Address (m .sizes) i x → Stored m i x v → isDone (accepted m c .answer) && aims m i x c ≡ false
-      → Leaves m i x v (accepted m c)
+  -- what each address shows, if the call isn't refused
+  pub shown : Sound m → (uses c .ram ≡ true → RamRoom m c)
+      → (i x : ℕ) → Address (sizesFor (m .sizes) c) i x
+      → isRefused (accepted m c .answer) ≡ false → shows (accepted m c .after) i x ≡ showsAfter m i x c
   -- with another RAM
-  pub alike : (ram : List ℕ) → Alike (accepted (withRam m ram) c) (accepted m c)
+  pub alike : (ram : List ℕ) → Alike (withRam m ram) m (accepted (withRam m ram) c) (accepted m c)
 
 -- the sizes of a start that passed
 start-sizes : (m : State) (z : Sizes) (l : Lent) → asked (m .sizes) (start z l) ≡ 0 → sizesOk z ≡ true
@@ -41,13 +49,16 @@ start-sizes m z l e = both (sizesOk z) _ (passed (sizesOk z && enough (uses (sta
 
 module _ (m : State) where
   -- what only asks
-  tells : (c : Call) (a : Answer) → accepted m c ≡ tell m a → ((ram : List ℕ) → Alike (accepted (withRam m ram) c) (accepted m c)) → Lawful m c
-  tells c a e alike =
+  tells : (c : Call) (a : Answer) → accepted m c ≡ tell m a → facts c .begins ≡ none → facts c .change ≡ unchanged
+      → ((ram : List ℕ) → Alike (withRam m ram) m (accepted (withRam m ram) c) (accepted m c)) → Lawful m c
+  tells c a e begins change alike =
       record {
         sound = λ s. subst (λ (o : Out). Sound (o .after)) (sym e) s;
         keeps = λ _. ap (λ (o : Out). o .after) e;
+        sizes = ap (λ (o : Out). o .after .sizes) e ∙ sym (ap (sizesBy (m .sizes)) begins);
         changes = λ _. subst (λ (o : Out). MayChangeBy m (facts c .change) (o .after)) (sym e) (may-stay m (facts c .change));
-        leaves = λ i x v s here h _. subst (Leaves m i x v) (sym e) (leaves-told m s i x v here h a);
+        shown = λ s room i x here n.
+            ap (λ (o : Out). shows (o .after) i x) e ∙ sym (ap₂ (λ (f : Effect) (o : Option State). showsFrom m i x f o) change begins);
         alike = alike;
       }
 
@@ -56,21 +67,27 @@ module _ (m : State) where
   page-lawful Mark i b l e =
       let p = placeOf (m .sizes) i b in
       let low = page-place (m .sizes) i b (lentOk (m .sizes) (lends (pageFacts Mark .uses) l)) e in
+      let one = mark-start m p (startOf m p) (isStart m p) in
+      let sound : Sound m → Sound (markAt m p (startOf m p) (isStart m p) .after) = λ s. sound-marked-or-not m s p low (startOf m p) refl (isStart m p) in
       record {
-        sound = λ s. sound-marked-or-not m s p low (startOf m p) refl (isStart m p);
+        sound = sound;
         keeps = mark-kept m p (startOf m p) (isStart m p);
-        changes = λ _. mark-start m p (startOf m p) (isStart m p);
-        leaves = λ j x v s here h _. leaves-marked-or-not m s j x v here h p low (startOf m p) refl (isStart m p);
+        sizes = one .sizes;
+        changes = λ _. one;
+        shown = λ s room j x here n. shows-started m s j x _ (sound s) one;
         alike = λ ram. mark-alike m ram p (startOf m p) (isStart m p);
       }
   page-lawful Drop i b l e =
       let p = placeOf (m .sizes) i b in
       let low = page-place (m .sizes) i b (lentOk (m .sizes) (lends (pageFacts Drop .uses) l)) e in
+      let one = drop-start m p (isStart m p) in
+      let sound : Sound m → Sound (dropAt m p (isStart m p) .after) = λ s. sound-dropped-or-not m s p low (isStart m p) in
       record {
-        sound = λ s. sound-dropped-or-not m s p low (isStart m p);
+        sound = sound;
         keeps = drop-kept m p (isStart m p);
-        changes = λ _. drop-start m p (isStart m p);
-        leaves = λ j x v s here h _. leaves-dropped-or-not m s j x v here h p low (isStart m p);
+        sizes = one .sizes;
+        changes = λ _. one;
+        shown = λ s room j x here n. shows-started m s j x _ (sound s) one;
         alike = λ ram. drop-alike m ram p (isStart m p);
       }
   page-lawful Touch i b l e =
@@ -78,18 +95,20 @@ module _ (m : State) where
       record {
         sound = λ s. sound-touched m s p (wordsAt m p);
         keeps = touch-kept m p (wordsAt m p) (pageOf m p);
-        changes = λ _. touch-region m p (wordsAt m p) (pageOf m p);
-        leaves = λ j x v s here h _. leaves-touched m s j x v here h p (wordsAt m p);
+        sizes = touch-sizes m p (wordsAt m p) (pageOf m p);
+        changes = λ s. touch-region m s p (wordsAt m p) (pageOf m p);
+        shown = λ s room j x here n. touched-shows m s j x p (wordsAt m p) n;
         alike = λ ram. touch-alike m ram p (wordsAt m p) (pageOf m p);
       }
-  page-lawful Look i b l e = tells (page Look i b l) _ refl (λ ram. told-alike m ram _ _ refl)
+  page-lawful Look i b l e = tells (page Look i b l) _ refl refl refl (λ ram. told-alike m ram _)
   page-lawful Release i b l e =
       let p = placeOf (m .sizes) i b in
       record {
         sound = λ s. sound-released-or-not m s p (isStart m p) refl;
         keeps = release-kept m p (isStart m p);
+        sizes = release-region m p (isStart m p) .0 .sizes;
         changes = λ _. release-region m p (isStart m p);
-        leaves = λ j x v s here h n. leaves-released-or-not m s j x v here h p (isStart m p) n;
+        shown = λ s room j x here n. released-shows m s j x p (isStart m p) refl n;
         alike = λ ram. release-alike m ram p (isStart m p);
       }
 
@@ -99,14 +118,19 @@ module _ (m : State) where
       record {
         sound = λ _. sound-begun z (m .ram) (start-sizes m z l e);
         keeps = λ n. absurd (false≢true n);
+        sizes = refl;
         changes = λ _. refl;
-        leaves = λ i x v s here h n. absurd (false≢true (sym n));
-        alike = λ ram. record { answers = refl; states = refl };
+        shown = λ s room i x here n. refl;
+        alike = λ ram. record { answers = same-answer; states = refl };
       }
   lawful (page p i b l) e = page-lawful p i b l e
-  lawful free e = tells free _ refl (λ ram. told-alike m ram _ _ refl)
-  lawful (translate i x l) e = tells (translate i x l) _ refl (λ ram. told-alike m ram _ _ refl)
-  lawful (read i x n l) e = tells (read i x n l) _ refl (λ ram. read-alike m ram i x n)
+  lawful free e = tells free _ refl refl refl (λ ram. told-alike m ram _)
+  lawful (translate i x l) e = tells (translate i x l) _ refl refl refl (λ ram. told-alike m ram _)
+  lawful (read i x n l) e =
+      let q = passed (lentOk (m .sizes) (lends tablesAndRam l)) (ltb i (m .sizes .spaces)) (leb (x + n) (spaceBytes (m .sizes))) e in
+      let in-space = ltb-true i (m .sizes .spaces) (q .second) in
+      let fits = leb-true (x + n) (spaceBytes (m .sizes)) (q .third) in
+      tells (read i x n l) _ refl refl refl (λ ram. read-alike m ram i x n (λ k h. record { space = in-space; inside = omega (arith, fits) }))
   lawful (write i x vs l) e =
       let q = passed (lentOk (m .sizes) (lends everyBuffer l)) (ltb i (m .sizes .spaces)) (leb (x + length vs) (spaceBytes (m .sizes))) e in
       let out = spanOutside m i x (length vs) in
@@ -114,11 +138,13 @@ module _ (m : State) where
       record {
         sound = λ s. sound-written m s i x vs out short;
         keeps = write-kept m i x vs out short;
+        sizes = write-sizes m i x vs out short;
         changes = λ s. write-span m s i x vs out short;
-        leaves = λ j y v s here h n. leaves-written m s j y v here h i x vs (ltb-true _ _ (q .second)) (leb-true _ _ (q .third)) out short n;
+        shown = λ s room j y here n.
+            written-shows m s j y i x vs here (ltb-true _ _ (q .second)) (leb-true _ _ (q .third)) (λ _. room refl) out short refl refl n;
         alike = λ ram. write-alike m ram i x vs;
       }
-  lawful (list i room l) e = tells (list i room l) _ refl (λ ram. list-alike m ram i room)
+  lawful (list i room l) e = tells (list i room l) _ refl refl refl (λ ram. list-alike m ram i room)
 
 -- ---- any call, in any state
 
@@ -150,22 +176,71 @@ refusal-keeps m c = by-check (KeptIfRefused m) m c (λ e. lawful m c e .keeps) (
 pub may-change : (m : State) (c : Call) → Sound m → MayChange m c (after m c)
 may-change m c s = by-check (λ o. MayChange m c (o .after)) m c (λ e. lawful m c e .changes s) (λ a. may-stay m (facts c .change))
 
-step-leaves : (m : State) (c : Call) (i x v : ℕ) → Sound m → Address (m .sizes) i x → Stored m i x v → ends m i x c ≡ false → Leaves m i x v (step m c)
-step-leaves m c i x v s here h =
-    by-check (λ o. isDone (o .answer) && aims m i x c ≡ false → Leaves m i x v o) m c
-    (λ e. lawful m c e .leaves i x v s here h) (λ a _. leaves-told m s i x v here h a)
+-- a call that passed and is lent the RAM has room in it
+abbrev pub RoomFor : State → Call → Type 0
+RoomFor m c = asked (m .sizes) c ≡ 0 → uses c .ram ≡ true → RamRoom m c
 
-pub alike : (m : State) (ram : List ℕ) (c : Call) → Alike (step (withRam m ram) c) (step m c)
+-- the sizes, and what each address shows, after a call that isn't refused
+pub step-shown : (m : State) (c : Call) → Sound m → RoomFor m c → isRefused (answer m c) ≡ false
+    → (after m c .sizes ≡ sizesFor (m .sizes) c)
+    × ((i x : ℕ) → Address (sizesFor (m .sizes) c) i x → shows (after m c) i x ≡ showsAfter m i x c)
+unfolding step
+step-shown m c s room = go (asked (m .sizes) c) refl
+  where
+    go : (k : ℕ) → asked (m .sizes) c ≡ k → isRefused (unless (refusal c) k m (accepted m c) .answer) ≡ false
+        → (unless (refusal c) k m (accepted m c) .after .sizes ≡ sizesFor (m .sizes) c)
+        × ((i x : ℕ) → Address (sizesFor (m .sizes) c) i x → shows (unless (refusal c) k m (accepted m c) .after) i x ≡ showsAfter m i x c)
+    go zero e n = let l = lawful m c e in (l .sizes, λ i x here. l .shown s (room e) i x here n)
+    go (suc k) e n = absurd (false≢true (sym n ∙ is-refusal (facts c .kind) (suc k)))
+
+zero-not : (t : Bool) (o : Option ℕ) (v : ℕ) → o ≡ some v → orZero t o ≡ some v
+zero-not false o v h = h
+zero-not true o v h = rw h
+
+-- an effect that spares a byte leaves it
+spared-shows : (m : State) (i x v : ℕ) (e : Effect) → aimsAt m i x e ≡ false → shows m i x ≡ some v → showsBy m i x e ≡ some v
+spared-shows m i x v unchanged a h = h
+spared-shows m i x v (prepared z) a h = h
+spared-shows m i x v (startPut j b) a h = h
+spared-shows m i x v (pageMapped j b) a h = zero-not (eqb (pageOfAddress (m .sizes) i x) (placeOf (m .sizes) j b)) (shows m i x) v h
+spared-shows m i x v (regionEmptied j b) a h = rw a h
+spared-shows m i x v (spanStored j y vs) a h =
+    let page = inRun (pageOfAddress (m .sizes) j y) (spanPages (m .sizes) y (length vs)) (pageOfAddress (m .sizes) i x) in
+    rw a (zero-not page (shows m i x) v h)
+
+step-leaves : (m : State) (c : Call) (i x v : ℕ) → Sound m → m .sizes .frames * m .sizes .page ≤ length (m .ram) → Address (m .sizes) i x
+    → shows m i x ≡ some v → ends m i x c ≡ false
+    → (shows (after m c) i x ≡ some v) × (after m c .sizes ≡ m .sizes)
+step-leaves m c i x v s room here h = go (isRefused (answer m c)) refl
+  where
+    by-begins : (o : Option State) → facts c .begins ≡ o → isRefused (answer m c) ≡ false → (isBeginning o || aimsAt m i x (facts c .change)) ≡ false
+        → (shows (after m c) i x ≡ some v) × (after m c .sizes ≡ m .sizes)
+    by-begins (some t) b n spared = absurd (false≢true (sym spared))
+    by-begins none b n spared =
+        let same = ap (sizesBy (m .sizes)) b in
+        let t = step-shown m c s (λ _ _. omega (arith, room, ap (λ (z : Sizes). z .frames * z .page) same)) n in (
+          t .1 i x (subst (λ (z : Sizes). Address z i x) (sym same) here)
+              ∙ ap (showsFrom m i x (facts c .change)) b
+              ∙ spared-shows m i x v (facts c .change) spared h,
+          t .0 ∙ same,
+        )
+
+    go : (r : Bool) → isRefused (answer m c) ≡ r → (not r && aims m i x c) ≡ false → (shows (after m c) i x ≡ some v) × (after m c .sizes ≡ m .sizes)
+    go true r e = let k = refusal-keeps m c r in (ap (λ (u : State). shows u i x) k ∙ h, ap (λ (u : State). u .sizes) k)
+    go false r e = by-begins (facts c .begins) refl r e
+
+pub alike : (m : State) (ram : List ℕ) (c : Call) → Alike (withRam m ram) m (step (withRam m ram) c) (step m c)
 unfolding step
 alike m ram c = go (asked (m .sizes) c) refl
   where
-    go : (k : ℕ) → asked (m .sizes) c ≡ k → Alike (unless (refusal c) k (withRam m ram) (accepted (withRam m ram) c)) (unless (refusal c) k m (accepted m c))
+    go : (k : ℕ) → asked (m .sizes) c ≡ k
+        → Alike (withRam m ram) m (unless (refusal c) k (withRam m ram) (accepted (withRam m ram) c)) (unless (refusal c) k m (accepted m c))
     go zero e = lawful m c e .alike ram
-    go (suc k) e = told-alike m ram _ _ refl
+    go (suc k) e = told-alike m ram _
 
 -- ---- beginnings and histories
 
-none-some : {s : State} → _≡_ {A = Option State} none (some s) → ⊥
+pub none-some : {s : State} → _≡_ {A = Option State} none (some s) → ⊥
 none-some e = let w : _≡_ {A = ℕ} 0 1 = cc in omega arith
 
 -- what begins a state leaves it, with the RAM as it stood
@@ -198,12 +273,26 @@ unfolding afterAll
 history-sound m [] s = s
 history-sound m (c ∷ cs) s = history-sound (after m c) cs (step-sound m c s)
 
+-- no call changes how long the RAM is
+ram-long : (m m′ : State) (e : Effect) → MayChangeBy m e m′ → length (m′ .ram) ≡ length (m .ram)
+ram-long m m′ unchanged c = ap (λ (u : State). length (u .ram)) c
+ram-long m m′ (prepared z) c = ap length c
+ram-long m m′ (startPut i b) c = ap length (c .ram)
+ram-long m m′ (pageMapped i b) c = c .1 .ram-size
+ram-long m m′ (regionEmptied i b) c = ap length (c .1)
+ram-long m m′ (spanStored i x vs) c = c .taken .ram-size
+
+pub step-ram-long : (m : State) (c : Call) → Sound m → length (after m c .ram) ≡ length (m .ram)
+step-ram-long m c s = ram-long m (after m c) (facts c .change) (may-change m c s)
+
 -- a byte that no call of the history ends
-pub history-leaves : (m : State) (cs : List Call) (i x v : ℕ) → Sound m → Address (m .sizes) i x → Stored m i x v → Spared m i x cs
-    → Stored (afterAll m cs) i x v × (afterAll m cs .sizes ≡ m .sizes)
+pub history-leaves : (m : State) (cs : List Call) (i x v : ℕ) → Sound m → m .sizes .frames * m .sizes .page ≤ length (m .ram) → Address (m .sizes) i x
+    → shows m i x ≡ some v → Spared m i x cs → (shows (afterAll m cs) i x ≡ some v) × (afterAll m cs .sizes ≡ m .sizes)
 unfolding Spared afterAll
-history-leaves m [] i x v s here h p = (h, refl)
-history-leaves m (c ∷ cs) i x v s here h p =
-    let l = step-leaves m c i x v s here h (p .0) in
-    let r = history-leaves (after m c) cs i x v (step-sound m c s) (subst (λ (z : Sizes). Address z i x) (sym (l .sizes-same)) here) (l .byte) (p .1) in
-    (r .0, r .1 ∙ l .sizes-same)
+history-leaves m [] i x v s room here h p = (h, refl)
+history-leaves m (c ∷ cs) i x v s room here h p =
+    let l = step-leaves m c i x v s room here h (p .0) in
+    let still : after m c .sizes .frames * after m c .sizes .page ≤ length (after m c .ram) =
+    omega (arith, step-ram-long m c s, ap (λ (z : Sizes). z .frames * z .page) (l .1)) in
+    let r = history-leaves (after m c) cs i x v (step-sound m c s) still (subst (λ (z : Sizes). Address z i x) (sym (l .1)) here) (l .0) (p .1) in
+    (r .0, r .1 ∙ l .1)

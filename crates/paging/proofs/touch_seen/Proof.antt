@@ -1,6 +1,8 @@
 -- The plan for what is seen, carried out.
+use mathlib.Core.Path.{refl, ap, _∙_}
 use mathlib.Core.List.{List}
 use Prim.Native.Nat.{ℕ}
+use lib.ListN.{set}
 use Rattle.planning.specs.Fits.{Planned}
 use Rattle.planning.specs.Planning.{seen-reach, planned-as}
 use Rattle.paging.specs.Fits.{Due}
@@ -36,20 +38,25 @@ map-page-requires c κs =
     touch-mappable _ _ _ _ _ _ _ _ _ _ (due .can) _ (planned plan _ due) _ _ (chosen .todo2 .given .1) _ (placed .place .ensures)
 
 returns : tie.Need-returns
-returns c = λ index ram due. did-old _ _ _ _ _ _ _ _ _ _ (due .can) _ (planned (c .before .before .before) index due) ram _ (c .before .todo .given .1)
+returns c = (λ index ram due long. did-old _ _ _ _ _ _ _ _ _ _ (due .can) _ (planned (c .before .before .before) index due) ram long _ (c .before .todo .given .1), refl)
 
 returns-2 : tie.Need-returns-2
 returns-2 c =
     let mapped = c .before .before .before .before .before .before .before .before .before .before .before .before .before in
     let placed = mapped .before .before .before .before .before .before .before in
-    let chosen = placed .before .before in
-    λ index ram due.
-    did-new _ _ _ _ _ _ _ _ _ _ (due .can) _ (planned (chosen .before .before) index due) ram _ _ _ _ _ _ _ _ _ _ (chosen .todo2 .given .1)
-    (placed .place .ensures) (mapped .map-page .ensures)
+    let chosen = placed .before .before in (
+      λ index ram due long.
+          did-new _ _ _ _ _ _ _ _ _ _ (due .can) _ (planned (chosen .before .before) index due) ram long _ _ _ _ _ _ _ _ _ _ (chosen .todo2 .given .1)
+          (placed .place .ensures) (mapped .map-page .ensures),
+      mapped .map-page .ensures .table-is ∙ ap (λ (p : ℕ). set (entry (chosen .before .before) .args .table .now) p (mapped .map-page .result .frame)) (placed .place .ensures),
+    )
 
 returns-3 : tie.Need-returns-3
-returns-3 c = λ index ram due.
-    did-refuse _ _ _ _ _ _ _ _ _ _ (due .can) _ (planned (c .before .before .before) index due) ram _ _ (c .before .todo3 .given .1)
+returns-3 c = (
+  λ index ram due long.
+      did-refuse _ _ _ _ _ _ _ _ _ _ (due .can) _ (planned (c .before .before .before) index due) ram long _ _ (c .before .todo3 .given .1),
+  refl,
+)
 
 pub touch-seen-spec : {M : Type 1} → statement M
 touch-seen-spec =

@@ -69,7 +69,7 @@ loop-again c =
     storing-more _ _ _ _ _ _ _ _ _ _ (p .before .before .loop .inv) (within p) (c .before .before .write-part .ensures)
 
 same-length : tie.Need-same-length Inv-loop μ-loop
-same-length c = c .before .loop .inv .words .few .size
+same-length c = c .before .loop .inv .long
 
 returns : tie.Need-returns Inv-loop μ-loop
 returns c = storing-all _ _ _ _ _ _ _ _ (c .before .loop .inv) (c .loop-test .left)

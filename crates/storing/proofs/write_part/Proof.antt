@@ -1,8 +1,9 @@
 -- The frame that the table has, and the bytes into it.
+use mathlib.Core.Path.{_∙_}
 use native.Mathlib.Omega.{arith}
 use borrow.Author.Needs.{needs}
 use Rattle.spans.specs.PartLaws.{part-address}
-use Rattle.storing.specs.Frames.{none-stored, frame-stored}
+use Rattle.storing.specs.Stores.{none-stored, frame-stored}
 use Rattle.storing.proofs.write_part.Statement.{statement}
 use Rattle.storing.proofs.write_part.Tie as tie
 
@@ -21,10 +22,13 @@ returns : tie.Need-returns
 returns c =
     let t = c .before .before .before .before in
     let f = t .before .before in
-    frame-stored _ _ _ _ _ _ (entry f .pre .0) _ (f .frame-at .ensures) (t .if1 .taken) _ (c .before .before .store-frame .ensures)
+    let a = entry f .args in
+    c .before .before .store-frame .ensures
+    ∙ frame-stored (a .head) (a .space) (a .x) (a .src .now) (a .table .now) (a .ram .now) (entry f .pre .0 .fits) _ (f .frame-at .ensures) (t .if1 .taken)
 
 returns-2 : tie.Need-returns-2
-returns-2 c = let f = c .before .before in none-stored _ _ _ _ _ _ (entry f .pre .0) (omega (arith, f .frame-at .ensures, c .if1 .left))
+returns-2 c = let f = c .before .before in let a = entry f .args in
+    none-stored (a .head) (a .space) (a .x) (a .src .now) (a .table .now) (a .ram .now) (entry f .pre .0 .fits) (omega (arith, f .frame-at .ensures, c .if1 .left))
 
 pub write-part-spec : {M : Type 1} → statement M
 write-part-spec = tie.close (tie.spec frame-at-requires store-frame-requires (λ c. search needs) returns returns-2)

@@ -7,7 +7,8 @@ use Rattle.memory.specs.Memory.{Memory, memory, sizesOf, lengths}
 use Rattle.laws.specs.Told.{early-refused}
 use Rattle.writing.specs.Writing.{write-admitted}
 use Rattle.writing.proofs.Written.{number-is, Spanned, Decided, admitted, end-inside, end-small, span-lookable, span-touchable, decided, refused-short}
-use Rattle.writing.proofs.Written.{one-part, one-resident, one-stored, resident-decided, resident-stay, next-span, next-table, written}
+use Rattle.writing.proofs.Written.{one-part, one-resident, one-stored, resident-decided, resident-stay, span-there, table-there, written, next-span}
+use Rattle.writing.proofs.Written.{next-table, written-over}
 use Rattle.writing.proofs.write.Statement.{statement}
 use Rattle.writing.proofs.write.Tie as tie
 
@@ -30,10 +31,10 @@ abbrev paged : tie.After-settled → tie.After-pages
 paged c = c .before .before .before .before .before .before .before .before .before .before .before .before .before .before .before
 
 abbrev accepted : tie.After-touch-all → tie.Else5
-accepted c = c .before .before .before .before .before .before .before
+accepted c = c .before .before .before .before .before .before .before .before
 
 abbrev touched : tie.After-store-arg4 → tie.After-touch-all
-touched c = c .before .before .before .before .before .before .before .before .before .before .before .before .before .before
+touched c = c .before .before .before .before .before .before .before .before .before .before .before .before .before .before .before .before
 
 number : (c : tie.After-check)
     → let s = entry c in
@@ -86,7 +87,7 @@ returns-2 c =
     let s = span (t .before) in
     let below = c .before .before .before .before .if3 .taken in
     let all = one-resident s (t .if2 .taken) _ (f .frame-of .ensures) below in
-    written s (resident-stay s all) (resident-decided s all) refl
+    written s (resident-decided s all) refl (resident-stay s all)
     (one-stored s (t .if2 .taken) _ (f .frame-of .ensures) below (c .before .before .store-frame .ensures))
 
 -- ---- any other span
@@ -99,17 +100,15 @@ all-resident-requires c κs = let s = span (c .before .before .before .before .b
 
 store-requires : tie.Need-store-requires
 store-requires c κs =
-    let r = c .before .before .before in
-    let s = span (resided r) in
-    let all = resident-stay s (r .all-resident .ensures .yes (c .before .before .if4 .taken)) in
-    (next-span s all, next-table s all)
+    let s = span (resided (c .before .before .before)) in
+    (span-there s, table-there s)
 
 returns-3 : tie.Need-returns-3
 returns-3 c =
     let r = c .before .before .before .before .before .before in
     let s = span (resided r) in
     let all = r .all-resident .ensures .yes (c .before .before .before .before .before .if4 .taken) in
-    written s (resident-stay s all) (resident-decided s all) refl (c .before .before .store .ensures)
+    written s (resident-decided s all) refl (resident-stay s all) (c .before .before .store .ensures)
 
 survey-requires : tie.Need-survey-requires
 survey-requires c κs = let s = span (c .before .before .before .before .before .before .before .before .before .before .before .before .before) in (omega arith, end-inside s, span-lookable s)
@@ -121,20 +120,18 @@ returns-4 : tie.Need-returns-4
 returns-4 c = refused-short (span (paged (c .before))) (decision (c .before)) (c .if5 .taken)
 
 touch-all-requires : tie.Need-touch-all-requires
-touch-all-requires c κs = (omega arith, span-touchable (span (paged (c .before .before .before .before .before .before .before))))
+touch-all-requires c κs = let s = span (paged (c .before .before .before .before .before .before .before .before)) in (span-there s, span-touchable s)
 
 store-requires-2 : tie.Need-store-requires-2
 store-requires-2 c κs =
     let t = touched c in
-    let p = paged (accepted t .before) in
-    let all = t .touch-all .ensures (entry (checked p) .args .ram .now) in
-    (next-span (span p) all, next-table (span p) all)
+    let s = span (paged (accepted t .before)) in
+    (next-span s (t .touch-all .ensures), next-table s (t .touch-all .ensures))
 
 returns-5 : tie.Need-returns-5
 returns-5 c =
     let t = touched (c .before .before .before) in
-    let p = paged (accepted t .before) in
-    written (span p) (t .touch-all .ensures (entry (checked p) .args .ram .now)) (decision (accepted t .before)) (accepted t .if5 .left)
+    written-over (span (paged (accepted t .before))) (t .touch-all .ensures) (decision (accepted t .before)) (accepted t .if5 .left)
     (c .before .before .store2 .ensures)
 
 pub write-spec : {M : Type 1} → statement M

@@ -1,0 +1,223 @@
+// Players that are wrong in one way each about new pages (W-201), to try the scripts on: `run.sh broken` plays them and demands that
+// each is found. Each is the plain machine's play, and then some bytes of the RAM as they should not be.
+use crate::plain::{Answer, Ask, Call, Machine};
+use std::ops::Range;
+use std::sync::OnceLock;
+
+type Bytes = Range<usize>;
+
+// A call that was played: the RAM before and after it, and the bytes of the frames that it had to do with.
+struct Played<'a> {
+    ask: &'a Ask,
+    is_refused: bool,
+    before: Vec<u8>,
+    after: Vec<u8>,
+    // of pages that it asks for and that were resident
+    resident: Vec<Bytes>,
+    // of pages that it mapped, and of those that it released
+    new: Vec<Bytes>,
+    released: Vec<Bytes>,
+    // what a write stored
+    stored: Vec<Bytes>,
+}
+
+impl Played<'_> {
+    fn is_touch(&self) -> bool {
+        matches!(self.ask, Ask::Touch(..))
+    }
+
+    fn is_write(&self) -> bool {
+        matches!(self.ask, Ask::Write(..))
+    }
+
+    // The bytes that a write stored are there, whatever was done around them.
+    fn store(&self, ram: &mut [u8]) {
+        for part in &self.stored {
+            ram[part.clone()].copy_from_slice(&self.after[part.clone()]);
+        }
+    }
+
+    // Of each new page's bytes some are as they were.
+    fn leave(&self, ram: &mut [u8], some: impl Fn(Bytes) -> Bytes) {
+        for bytes in self.new.iter().cloned().map(some) {
+            ram[bytes.clone()].copy_from_slice(&self.before[bytes]);
+        }
+        self.store(ram);
+    }
+
+    fn clear(&self, ram: &mut [u8], frames: &[Bytes]) {
+        for bytes in frames {
+            ram[bytes.clone()].fill(0);
+        }
+    }
+}
+
+type Fault = fn(&Played, &mut [u8]);
+
+const FAULTS: &[(&str, Fault)] = &[
+    ("touch doesn't clear", |p, ram| {
+        if p.is_touch() {
+            p.leave(ram, |bytes| bytes);
+        }
+    }),
+    ("only touch clears", |p, ram| {
+        if p.is_write() {
+            p.leave(ram, |bytes| bytes);
+        }
+    }),
+    ("write doesn't clear before its span", |p, ram| {
+        if let (true, Some(first)) = (p.is_write(), p.stored.first()) {
+            p.leave(ram, |bytes| match bytes.contains(&first.start) {
+                true => bytes.start..first.start,
+                false => bytes.start..bytes.start,
+            });
+        }
+    }),
+    ("write doesn't clear behind its span", |p, ram| {
+        if let (true, Some(last)) = (p.is_write(), p.stored.last()) {
+            p.leave(ram, |bytes| match bytes.contains(&(last.end - 1)) {
+                true => last.end..bytes.end,
+                false => bytes.end..bytes.end,
+            });
+        }
+    }),
+    ("write clears after it has stored", |p, ram| {
+        if p.is_write() {
+            p.clear(ram, &p.new);
+        }
+    }),
+    ("touch of a resident page clears it", |p, ram| {
+        if p.is_touch() {
+            p.clear(ram, &p.resident);
+        }
+    }),
+    ("write clears the resident pages of its span", |p, ram| {
+        if p.is_write() && !p.is_refused {
+            p.clear(ram, &p.resident);
+            p.store(ram);
+        }
+    }),
+    (
+        "a write that maps clears all of its span's pages",
+        |p, ram| {
+            if p.is_write() && !p.new.is_empty() {
+                p.clear(ram, &p.resident);
+                p.store(ram);
+            }
+        },
+    ),
+    (
+        "a refused write clears the resident pages of its span",
+        |p, ram| {
+            if p.is_write() && p.is_refused {
+                p.clear(ram, &p.resident);
+            }
+        },
+    ),
+    ("the last byte isn't cleared", |p, ram| {
+        p.leave(ram, |bytes| bytes.end - 1..bytes.end)
+    }),
+    ("the first byte isn't cleared", |p, ram| {
+        p.leave(ram, |bytes| bytes.start..bytes.start + 1)
+    }),
+    ("256 bytes are cleared, however large the page", |p, ram| {
+        p.leave(ram, |bytes| bytes.start + 256..bytes.end);
+    }),
+    ("the frame behind is cleared", |p, ram| {
+        p.leave(ram, |bytes| bytes);
+        for bytes in &p.new {
+            let behind = bytes.end..bytes.end + bytes.len();
+            if behind.end <= ram.len() {
+                ram[behind].fill(0);
+            }
+        }
+        p.store(ram);
+    }),
+    ("cleared at release, not at mapping", |p, ram| {
+        p.clear(ram, &p.released);
+        p.leave(ram, |bytes| bytes);
+    }),
+    ("cleared at a start, not at mapping", |p, ram| {
+        if let (Ask::Start(_), false) = (p.ask, p.is_refused) {
+            ram.fill(0);
+        }
+        p.leave(ram, |bytes| bytes);
+    }),
+];
+
+// Whether the names were asked for, a line each; then they are told.
+pub fn is_asked_for_names() -> bool {
+    let is_asked = std::env::args().nth(1).is_some_and(|word| word == "faults");
+    if is_asked {
+        FAULTS.iter().for_each(|(name, _)| println!("{name}"));
+    }
+    is_asked
+}
+
+// The number of the one that is tried.
+fn tried() -> usize {
+    static ONCE: OnceLock<usize> = OnceLock::new();
+    *ONCE.get_or_init(|| {
+        let number = std::env::var("SESSION_FAULT").ok();
+        number
+            .and_then(|number| number.parse().ok())
+            .expect("SESSION_FAULT is no number")
+    })
+}
+
+// The frames' bytes of the resident ones among the pages that a call maps.
+fn resident(machine: &Machine, call: &Call) -> Vec<Bytes> {
+    let sizes = machine.sizes();
+    if call.check(&sizes).is_err() {
+        return Vec::new();
+    }
+    let (space, pages) = match call.ask {
+        Ask::Touch(space, page) => (space, page..page + 1),
+        Ask::Write(space, address, ref bytes) => (space, sizes.span(address, bytes.len() as u64)),
+        _ => return Vec::new(),
+    };
+    let found = pages.filter_map(|page| machine.parts(space, page * sizes.page, sizes.page).ok());
+    found.flatten().collect()
+}
+
+pub fn play(machine: &mut Machine, call: &Call) -> Answer {
+    let resident = resident(machine, call);
+    let before = machine.ram().to_vec();
+    let pool: Vec<u64> = machine.pool().iter().copied().collect();
+    let answer = machine.play(call);
+    let taken = match call.ask {
+        Ask::Touch(..) | Ask::Write(..) => pool.len() - machine.pool().len(),
+        _ => 0,
+    };
+    let released = if let Answer::Pages(many) = answer {
+        many as usize
+    } else {
+        0
+    };
+    let frames = |frames: &[u64]| {
+        frames
+            .iter()
+            .map(|frame| machine.bytes_of(*frame))
+            .collect()
+    };
+    let now: Vec<u64> = machine.pool().iter().copied().collect();
+    let is_refused = matches!(answer, Answer::Refused(..));
+    let stored = match call.ask {
+        Ask::Write(space, address, ref bytes) if !is_refused => {
+            machine.parts(space, address, bytes.len() as u64).unwrap()
+        }
+        _ => Vec::new(),
+    };
+    let played = Played {
+        ask: &call.ask,
+        is_refused,
+        after: machine.ram().to_vec(),
+        before,
+        resident,
+        new: frames(&pool[..taken]),
+        released: frames(&now[..released]),
+        stored,
+    };
+    FAULTS[tried()].1(&played, machine.ram_mut());
+    answer
+}
