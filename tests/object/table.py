@@ -25,7 +25,7 @@ REMARKS = {
     "free_count": "",
     "translate": "{resident} for a resident page",
     "read": "{a byte} for a byte, {all frames each} for each page more, and a `memmove` of the bytes: long ones are too long to hold interrupts off",
-    "write": "{a byte} for a byte, {all frames each} for each page more, and a `memmove`; for each new page a touch and a find more, "
+    "write": "{a byte} for a byte, {all frames each} for each page more, and a `memmove`; for each new page a touch more, "
              "and a `memset` of its rest",
     "list": "two finds for each region: too long to hold interrupts off",
     "sizes": "",

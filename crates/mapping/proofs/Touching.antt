@@ -2,7 +2,7 @@
 use mathlib.Core.Path.{_≡_, refl, sym, ap, _∙_, subst}
 use mathlib.Core.List.{List}
 use Prim.Native.Nat.{ℕ, suc, _+_, _-_, _*_, _/_, _%_, _≤_, _<_, min}
-use native.Mathlib.Nat.{mod-lt}
+use native.Mathlib.Nat.{mod-lt, add-zero}
 use native.Mathlib.Omega.{arith}
 use lib.ListN.{length}
 use Rattle.machine.specs.declared.Touched.{Touched}
@@ -12,10 +12,12 @@ use Rattle.machine.specs.Machine.{Sizes, placeOf, places, spanPages, Lent, touc
 use Rattle.memory.specs.Memory.{Memory, withBytes, sizesOf, lengths}
 use Rattle.promise.specs.Did.{Did}
 use Rattle.laws.specs.Spans.{AllTouched, none-touched, one-touched}
+use Rattle.spans.specs.Parts.{Part}
+use Rattle.spans.specs.Shifted.{some-page}
 use Rattle.spans.specs.PartLaws.{PagesDone, pages-none, pages-before, one-page-more, pages-more}
 use Rattle.paging.specs.Models.{clearedFor, tabledFor}
 use Rattle.mapping.specs.Touches.{all-sizes, touched-lengths}
-use Rattle.mapping.specs.Spans.{aroundFor, AlikeBut, SpanTouched, alike-more}
+use Rattle.mapping.specs.Spans.{aroundFor, AlikeBut, SpanTouched, OneTouched, alike-more}
 
 -- the pages of the first `done` bytes
 pub record SoFar (i x n done : ℕ) (k k′ : Memory) : Type 0 where
@@ -77,3 +79,21 @@ module _ {i x n done : ℕ} {k k₁ : Memory} (s : SoFar i x n done k k₁) wher
                 (alike-more (k .head) (k₁ .head) same-sizes i x done size b pos page-is fits (pages-before z x n pos done (s .pages) low) (k₁ .table) (s .zeros)
                 (k₁ .ram) inside a below (s .alike));
           }
+
+-- a span of one page: the first turn is the last
+pub one-span : (i x n : ℕ) (k : Memory) → Part (k .head) i x n (k .ram) → (b : ℕ) → b ≡ x / sizesOf (k .head) .page → (a : Touched) (k₂ : Memory)
+    → Did (touch i b) k (touchedSays a) (withBytes k₂ (clearedFor (k .head) a (k .ram))) → k₂ .table ≡ tabledFor (k .head) i b a (k .table)
+    → k₂ .ram ≡ aroundFor (k .head) a x n (k .ram) → placeOf (sizesOf (k .head)) i b < length (k .table)
+    → ((f w : ℕ) → a ≡ touched-is.New f w → f < k .head .frames) → OneTouched i x n k a k₂
+unfolding touched-none
+one-span i x n k part b page-is a k₂ d table-is ram-is inside below =
+    let pos = some-page (k .head) (part .span .sizes-ok) in
+    let whole : n ≡ min (sizesOf (k .head) .page - (x + 0) % sizesOf (k .head) .page) (n - 0) = rw add-zero (omega (arith, part .fits)) in
+    record {
+      did = subst (λ (c : ℕ). Did (touch i c) k (touchedSays a) (withBytes k₂ (clearedFor (k .head) a (k .ram)))) page-is d;
+      ram-is = ram-is;
+      span =
+          touched-all
+          (touched-more (touched-none i x n k pos) (part .some-bytes) pos n whole b (rw add-zero page-is) a k₂ d table-is (rw add-zero ram-is) inside below)
+          (omega arith);
+    }

@@ -14,10 +14,12 @@ use lib.ListN.{length, getD, set}
 use lib.Seq.{getD-set-same, getD-set-other}
 use Rattle.machine.specs.declared.Touched.{Touched}
 use Rattle.machine.specs.declared.Touched.the-variants as touched-is
-use Rattle.machine.specs.Machine.{Sizes, placeOf, pageOfAddress, spanPages, zeroed}
+use Rattle.machine.specs.Answers.{touchedSays}
+use Rattle.machine.specs.Machine.{Sizes, placeOf, pageOfAddress, spanPages, touch, zeroed}
 use Rattle.machine.specs.Laws.Zeroed.{length-zeroed, zeroed-in, zeroed-else}
 use Rattle.memory.specs.Memory.{Memory, withBytes, at, sizesOf}
 use Rattle.memory.specs.declared.Head.{Head}
+use Rattle.promise.specs.Did.{Did}
 use Rattle.laws.specs.Parts.{same-page}
 use Rattle.laws.specs.Spans.{AllTouched}
 use Rattle.spans.specs.Parts.{placeIn, placeBy}
@@ -41,6 +43,12 @@ pub record SpanTouched (i x n : ℕ) (k k′ : Memory) : Type 0 where
   pub zeros : List ℕ
   pub touched : AllTouched i (x / sizesOf (k .head) .page) k (spanPages (sizesOf (k .head)) x n) (withBytes k′ zeros)
   pub alike : AlikeBut (k .head) i x n (k′ .table) zeros (k′ .ram)
+
+-- the same of a span of one page, with what its touch answered
+pub record OneTouched (i x n : ℕ) (k : Memory) (a : Touched) (k′ : Memory) : Type 0 where
+  pub did : Did (touch i (x / sizesOf (k .head) .page)) k (touchedSays a) (withBytes k′ (clearedFor (k .head) a (k .ram)))
+  pub ram-is : k′ .ram ≡ aroundFor (k .head) a x n (k .ram)
+  pub span : SpanTouched i x n k k′
 
 -- ---- one page more
 

@@ -1,2 +1,3 @@
-pub mod Surveying
 pub mod Residing
+pub mod Counting
+pub mod Settling

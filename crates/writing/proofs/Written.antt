@@ -3,7 +3,7 @@ use mathlib.Core.Path.{_≡_, refl, sym, ap, ap₂, _∙_, subst}
 use mathlib.Core.Bool.{Bool, true, false, cond}
 use mathlib.Core.List.{List, [], _∷_}
 use mathlib.Core.Option.{none, some}
-use Prim.Native.Nat.{ℕ, zero-le, _+_, _-_, _*_, _/_, _%_, _≤_, _<_}
+use Prim.Native.Nat.{ℕ, zero, suc, zero-le, _+_, _-_, _*_, _/_, _%_, _≤_, _<_}
 use native.Mathlib.Nat.{add-sub-cancel-left}
 use native.Mathlib.Omega.{arith}
 use borrow.Author.Tests.{le-ltb}
@@ -11,29 +11,34 @@ use lib.Dec.{ltb}
 use lib.ListN.{length}
 use lib.Seq.{sets}
 use Rattle.machine.specs.Machine.{Sizes, sizesOk, spaceBytes, places, placeOf, pageOfAddress, spanPages, State, Lent, anyOutside, countAbsent, storedAt}
-use Rattle.machine.specs.Machine.{write, asked, done, refused}
+use Rattle.machine.specs.Machine.{wordsAt, Out, touch, write, asked, accepted, done, refused}
+use Rattle.machine.specs.declared.PageCall.the-variants.{Touch}
+use Rattle.machine.specs.declared.Touched.{Touched}
+use Rattle.machine.specs.declared.Touched.the-variants as touched-is
+use Rattle.machine.specs.Answers.{touchedSays}
 use Rattle.machine.specs.Laws.Sizes.{fit}
 use Rattle.machine.specs.Laws.Storing.{stored-alike}
 use Rattle.memory.specs.Memory.{Memory, withBytes, at, sizesOf, lengths}
 use Rattle.promise.specs.Holds.{Holds}
 use Rattle.promise.specs.Shown.{frameOf}
-use Rattle.promise.specs.Did.{Among, Did}
+use Rattle.promise.specs.Did.{Among, Exactly, Did}
 use Rattle.laws.specs.Models.{checkOf, everyLength}
 use Rattle.laws.specs.Spans.{spanInside, AllTouched}
 use Rattle.laws.specs.SpanChecks.{write-check}
+use Rattle.laws.specs.Refusals.{passed-step}
+use Rattle.laws.specs.Passing.{page-passes}
 use Rattle.lookup.specs.Ready.{Lookable}
 use Rattle.lookup.specs.Sights.{frame-is, lookable}
 use Rattle.memory.specs.declared.Head.{Head}
 use Rattle.paging.specs.Fits.{Touchable}
 use Rattle.spans.specs.Parts.{Span, Part, placeIn, placeBy}
 use Rattle.spans.specs.PartLaws.{one-page}
-use Rattle.surveying.specs.declared.Tally.{Tally}
-use Rattle.surveying.specs.declared.Tally.the-variants.{Absent, Refused}
-use Rattle.surveying.specs.Surveys.{AllResident, TallyIs, SpanSurveyed, settledBy, Settled}
+use Rattle.surveying.specs.Surveys.{AllResident, Counted, writeRefusal, Settled}
 use Rattle.mapping.specs.Touches.{all-sizes, touched-lengths}
-use Rattle.mapping.specs.Spans.{SpanTouched}
+use Rattle.mapping.specs.Spans.{SpanTouched, OneTouched}
 use Rattle.storing.specs.Stores.{frame-stored}
-use Rattle.writing.specs.Writing.{SpanAdmitted, write-admitted, span-pages-inside, writeRefusal, spanRefusal, write-refused, write-done}
+use Rattle.writing.specs.Writing.{SpanAdmitted, write-admitted, span-pages-inside, spanRefusal, refusedWith, touch-settles, write-refused}
+use Rattle.writing.specs.Writing.{write-done}
 use Rattle.writing.proofs.Resident.{resident-there, resident-touched}
 
 -- the number of the check
@@ -41,16 +46,6 @@ pub number-is : (k : Memory) (i x : ℕ) (vs : List ℕ) {no : ℕ} {inside : Bo
     → inside ≡ spanInside (k .head) x (length vs)
     → no ≡ asked (sizesOf (k .head)) (write i x vs (lengths k))
 number-is k i x vs e inside-is = e ∙ ap (checkOf (k .head) (everyLength k) i) inside-is ∙ write-check k i x vs
-
--- the survey and the free frames settle it as the machine does
-settles-if : (b : Bool) → cond b 8 0 ≡ writeRefusal false b
-settles-if true = refl
-settles-if false = refl
-
-settles : (m : State) (p n : ℕ) (s : Tally) → TallyIs m p n s
-    → settledBy (length (m .pool)) s ≡ writeRefusal (anyOutside m p n) (ltb (length (m .pool)) (countAbsent m p n))
-settles m p n (Absent c) t = rw (t .0, t .1) (settles-if (ltb (length (m .pool)) (countAbsent m p n)))
-settles m p n (Refused c) t = rw (t .0) (t .1)
 
 -- where an address is by the page table hangs on the sizes alone
 place-by-sizes : (h h′ : Head) → sizesOf h ≡ sizesOf h′ → (i : ℕ) (table : List ℕ) (y : ℕ) → placeBy h i table y ≡ placeBy h′ i table y
@@ -97,18 +92,30 @@ module _ {k : Memory} {i x : ℕ} {vs : List ℕ} {first pages : ℕ} (s : Spann
       (s .first-is ∙ ap (λ (y : Sizes). x / y .page) (H .sizes-are))
       (s .pages-is ∙ ap (λ (y : Sizes). spanPages y x (length vs)) (H .sizes-are))
 
-  pub decided : {seen : Tally} {short : ℕ}
-      → SpanSurveyed (k .head) i first (first + pages) (k .index) (k .count) (k .table) (k .helper) (k .stack) (k .cache) seen
-      → Settled (k .head) seen short → Decided k i x vs short
-  decided {seen} surveyed settled =
-      record {
-        late = settled .late (surveyed .late);
-        is = λ m H.
-            settled .honest (k .index) (k .count) (k .table) (k .helper) (k .stack) (k .cache) (k .link) (k .ram) m H
-            ∙ settles m (placeOf (m .sizes) i first) pages seen
-            (subst (λ (n : ℕ). TallyIs m (placeOf (m .sizes) i first) n seen) (add-sub-cancel-left first pages) (surveyed .honest (k .link) (k .ram) m H))
-            ∙ refusal-is m H;
-      }
+  -- where some page isn't resident
+  module _ (some-absent : AllResident (k .head) i first (first + pages) (k .count) (k .table) (k .helper) (k .stack) (k .cache) → ⊥) where
+    some-pages : 0 < pages
+    some-pages = go pages refl
+      where
+        go : (n : ℕ) → pages ≡ n → 0 < n
+        go zero e = absurd (some-absent (λ b l h. absurd (omega arith)))
+        go (suc n) e = omega arith
+
+    pub first-inside : first < k .head .pages
+    first-inside = omega (arith, end-inside, some-pages)
+
+    pub decided : {absent short : ℕ} → Counted (k .head) i first (first + pages) (k .count) (k .table) (k .helper) (k .stack) (k .cache) absent
+        → Settled (k .head) i first absent (k .index) (k .count) (k .table) (k .helper) (k .stack) (k .cache) short → Decided k i x vs short
+    decided c t =
+        record {
+          late = t .late;
+          is = λ m H.
+              let p = placeOf (m .sizes) i first in
+              let same : first + pages - first ≡ pages = add-sub-cancel-left first pages in
+              t .honest (k .link) (k .ram) m H pages some-pages (subst (λ (y : Sizes). first + pages ≤ y .pages) (H .sizes-are) end-inside)
+              (λ e. c (k .index) (k .link) (k .ram) m H (ap (anyOutside m p) same ∙ e) ∙ ap (countAbsent m p) same)
+              ∙ refusal-is m H;
+        }
 
   pub refused-short : {short : ℕ} → Decided k i x vs short → (short ≡ 0 → ⊥) → Did (write i x vs) k (refused short) k
   refused-short d not-none = write-refused i x vs k (s .passes) _ (d .late not-none) (d .is)
@@ -199,3 +206,49 @@ module _ {k : Memory} {i x : ℕ} {vs : List ℕ} {first pages : ℕ} (s : Spann
         (stores
         ∙ stored-alike (placeBy (k₁ .head) i (k₁ .table)) x vs (t .zeros) (k₁ .ram) (t .alike .long)
         (λ p free. t .alike .same p (λ j l e. free j l (place-by-sizes (k₁ .head) (k .head) same-sizes i (k₁ .table) (x + j) ∙ e))))
+
+  -- ---- a span of one page, settled by its touch
+
+  module _ (one : spanPages (sizesOf (k .head)) x (length vs) ≡ 1) {a : Touched} {k₁ : Memory} (t : OneTouched i x (length vs) k a k₁) where
+    abbrev b : ℕ
+    b = x / z .page
+
+    touch-asked : asked z (touch i b (lengths k)) ≡ 0
+    touch-asked =
+        page-passes z Touch i b (lengths k) (admitted .sizes-ok) (admitted .space)
+        (omega (arith, one, span-pages-inside z (fit z (admitted .sizes-ok)) x (length vs) (admitted .fits))) (admitted .lent)
+
+    one-settled : (m : State) → Holds m k → refusedWith a ≡ spanRefusal m i x (length vs)
+    unfolding accepted
+    one-settled m H =
+        let back = H .sizes-are in
+        let c = touch i b (lengths k) in
+        let p = placeOf (m .sizes) i b in
+        let same = passed-step m c (subst (λ (y : Sizes). asked y c ≡ 0) back touch-asked) in
+        let here : pageOfAddress (m .sizes) i x ≡ p = ap (λ (y : Sizes). placeOf (m .sizes) i (x / y .page)) (sym back) in
+        let many : spanPages (m .sizes) x (length vs) ≡ 1 = subst (λ (y : Sizes). spanPages y x (length vs) ≡ 1) back one in
+        touch-settles m p (wordsAt m p) a (t .did .honest m H .answer-is ∙ ap (λ (o : Out). o .answer) same)
+        ∙ ap₂ (λ (q n : ℕ). writeRefusal (anyOutside m q n) (ltb (length (m .pool)) (countAbsent m q n))) (sym here) (sym many)
+
+    late : (a : Touched) → Exactly (asked z (touch i b (lengths k))) z (touch i b (lengths k)) (touchedSays a) → (refusedWith a ≡ 0 → ⊥)
+        → Among (4 ∷ 8 ∷ 9 ∷ []) (refusedWith a)
+    late (touched-is.Old f) e d = absurd (d refl)
+    late (touched-is.New f w) e d = absurd (d refl)
+    late (touched-is.Refused n w) e d =
+        subst (λ (j : ℕ). Exactly j z (touch i b (lengths k)) (touchedSays (touched-is.Refused n w))) touch-asked e .0
+
+    one-decided : Decided k i x vs (refusedWith a)
+    one-decided = record { late = late a (t .did .asks); is = one-settled }
+
+    -- a touch that is refused leaves all as it is
+    same-memory : (a : Touched) → OneTouched i x (length vs) k a k₁ → (refusedWith a ≡ 0 → ⊥) → k₁ ≡ k
+    same-memory (touched-is.Old f) t d = absurd (d refl)
+    same-memory (touched-is.New f w) t d = absurd (d refl)
+    same-memory (touched-is.Refused n w) t d = ap (withBytes k₁) (t .ram-is) ∙ t .did .stays refl
+
+    pub one-refused : (refusedWith a ≡ 0 → ⊥) → Did (write i x vs) k (refused (refusedWith a)) k₁
+    one-refused d = subst (Did (write i x vs) k (refused (refusedWith a))) (sym (same-memory a t d)) (refused-short one-decided d)
+
+    pub one-done : refusedWith a ≡ 0 → {ram : List ℕ} → ram ≡ storedAt (placeBy (k₁ .head) i (k₁ .table)) x vs (k₁ .ram)
+        → Did (write i x vs) k done (withBytes k₁ ram)
+    one-done is-none stores = written-over (t .span) one-decided is-none stores

@@ -1,15 +1,19 @@
 -- A write keeps the promise: refused before the first touch, or all touched and all stored.
 use mathlib.Core.Path.{_≡_, refl, sym, ap, _∙_, subst}
-use mathlib.Core.Bool.{Bool, true, false, _&&_}
+use mathlib.Core.Bool.{Bool, true, false, _&&_, _||_}
 use mathlib.Core.List.{List, [], _∷_}
-use Prim.Native.Nat.{ℕ, zero, suc, _+_, _*_, _/_, _≤_, _<_}
+use Prim.Native.Nat.{ℕ, zero-le, zero, suc, _+_, _*_, _/_, _≤_, _<_}
 use native.Mathlib.Nat.{div-lt-iff-lt-mul}
 use native.Mathlib.Omega.{arith}
-use borrow.Author.Tests.{leb-true, ltb-true, ltb-false}
+use borrow.Author.Tests.{leb-true, ltb-true, ltb-false, le-ltb}
 use lib.Dec.{leb, ltb}
 use lib.ListN.{length}
 use Rattle.places.specs.Laws.{div-mono}
-use Rattle.machine.specs.Machine.{Sizes, sizesOk, spaceBytes, State, pageOfAddress, spanPages, Lent, uses, enough, write, asked, refused, done, tell}
+use Rattle.machine.specs.declared.Touched.{Touched}
+use Rattle.machine.specs.declared.Touched.the-variants as touched-is
+use Rattle.machine.specs.Answers.{touchedSays}
+use Rattle.machine.specs.Machine.{Sizes, sizesOk, spaceBytes, State, Page, outside, unmapped, mapped, pageOf, pageOfAddress, spanPages, Lent, uses, enough}
+use Rattle.machine.specs.Machine.{write, asked, old, new, refused, refusedAfter, done, tell, touchNew, touchPage, isOutside, anyOutside, isUnmapped}
 use Rattle.machine.specs.Machine.{countAbsent, storedAt, stored, storeAll, spanTouched, spanOutside, spanShort, writeIf, writeAt, accepted, after}
 use Rattle.machine.specs.Laws.Sizes.{both, Fit, fit, some-bytes, passed, page-below}
 use Rattle.machine.specs.Laws.Shows.{in-pages}
@@ -23,6 +27,7 @@ use Rattle.laws.specs.Spans.{AllTouched}
 use Rattle.laws.specs.Refusals.{Long, long, passed-step}
 use Rattle.laws.specs.Passing.{every-long}
 use Rattle.laws.specs.Told.{from-four, told-did}
+use Rattle.surveying.specs.Surveys.{writeRefusal}
 use Rattle.mapping.specs.Touches.{all-writes, all-touched-holds}
 use Rattle.spans.specs.Parts.{placeBy}
 use Rattle.storing.specs.Stores.{SpanMapped, span-words, span-stored}
@@ -57,15 +62,45 @@ module _ (z : Sizes) (f : Fit z) (x : ℕ) where
 
 -- ---- before the first touch
 
--- 4, then 8; 0 for none
-abbrev pub writeRefusal : Bool → Bool → ℕ
-writeRefusal true short = 4
-writeRefusal false true = 8
-writeRefusal false false = 0
-
 -- the number that settles a write on this machine
 abbrev pub spanRefusal : State → ℕ → ℕ → ℕ → ℕ
 spanRefusal m i x n = writeRefusal (spanOutside m i x n) (spanShort m i x n)
+
+-- the number of a touch's refusal, 0 for none
+abbrev pub refusedWith : Touched → ℕ
+refusedWith (touched-is.Old f) = 0
+refusedWith (touched-is.New f w) = 0
+refusedWith (touched-is.Refused n w) = n
+
+-- the touch of its page settles a write of one
+pub touch-settles : (m : State) (p w : ℕ) (a : Touched) → touchedSays a ≡ touchPage m p w (pageOf m p) .answer
+    → refusedWith a ≡ writeRefusal (anyOutside m p 1) (ltb (length (m .pool)) (countAbsent m p 1))
+unfolding anyOutside countAbsent
+touch-settles m p w a = go (pageOf m p)
+  where
+    same-number : (n w : ℕ) (a : Touched) → touchedSays a ≡ refusedAfter n w → refusedWith a ≡ n
+    same-number n w (touched-is.Old f) e = absurd (let z : _≡_ {A = ℕ} 0 1 = cc in omega arith)
+    same-number n w (touched-is.New f c) e = absurd (let z : _≡_ {A = ℕ} 0 1 = cc in omega arith)
+    same-number n w (touched-is.Refused k c) e = let same : k ≡ n = cc in same
+
+    from-pool : (g : ℕ) (pool : List ℕ) → touchedSays a ≡ touchNew m g p w pool .answer → refusedWith a ≡ writeRefusal false (ltb (length pool) 1)
+    from-pool g [] e = same-number 8 w a e
+    from-pool g (f ∷ rest) e = rw (le-ltb (length (f ∷ rest)) 1 (omega arith)) (new-one a e)
+      where
+        new-one : (a : Touched) → touchedSays a ≡ new f w → refusedWith a ≡ 0
+        new-one (touched-is.Old h) e = refl
+        new-one (touched-is.New h c) e = refl
+        new-one (touched-is.Refused k c) e = absurd (let z : _≡_ {A = ℕ} 0 1 = cc in omega arith)
+
+    go : (g : Page) → touchedSays a ≡ touchPage m p w g .answer → refusedWith a ≡ writeRefusal (isOutside g || false) (ltb (length (m .pool)) (isUnmapped g + 0))
+    go outside e = same-number 4 w a e
+    go (unmapped g) e = from-pool g (m .pool) e
+    go (mapped g f) e = rw (le-ltb (length (m .pool)) 0 zero-le) (old-one a e)
+      where
+        old-one : (a : Touched) → touchedSays a ≡ old f → refusedWith a ≡ 0
+        old-one (touched-is.Old h) e = refl
+        old-one (touched-is.New h c) e = refl
+        old-one (touched-is.Refused k c) e = absurd (let z : _≡_ {A = ℕ} 0 1 = cc in omega arith)
 
 refused-if : (m : State) (i x : ℕ) (vs : List ℕ) (a b : Bool) (n : ℕ) → n ≡ writeRefusal a b → (n ≡ 0 → ⊥) → writeIf m i x vs a b ≡ tell m (refused n)
 refused-if m i x vs true b n e d = rw e
