@@ -5,8 +5,9 @@
  * the pager's every answer, byte and frame, and leave the pager's RAM.
  * The cleared table doesn't know in which order pages were mapped, so its pool's order is the pager's only where each
  * region's pages are mapped ascending; there it must give every answer too, elsewhere all but frames.
- * Then all of it again with the six calls that have the checks in C in the pager's place; and everything once more with
- * what clang compiled. Last the refusals of these six calls against the pager's own, on heads, lengths and tables by chance.
+ * Then all of it again with the seven calls that have the checks in C in the pager's place; and everything once more with
+ * what clang compiled. Then the refusals of these seven calls against the pager's own, on heads, lengths and tables by chance.
+ * Last writes by the pager and by the checks in C from the same memory: they leave the same, and a refusal leaves what was.
  */
 #include "driver.h"
 
@@ -251,7 +252,7 @@ static uint32_t odd(uint32_t usual)
 static size_t nearly(size_t enough) { return draw(12) != 0 ? enough : draw(2) == 0 ? enough - 1 : draw(enough); }
 
 /* Tables that no call left: what stands in them is near what they could hold, so that some of it is believed. */
-static void damage(const corwystal_board *b, size_t n)
+static void damage(const corwystal_board *b, size_t n, uint32_t many)
 {
     uint32_t *tables[] = {b->count, b->table, b->helper, b->stack, b->cache};
     for (size_t k = 0; k < CORWYSTAL_INDEX_WORDS(n); k++)
@@ -259,23 +260,29 @@ static void damage(const corwystal_board *b, size_t n)
     for (size_t t = 0; t < sizeof tables / sizeof *tables; t++)
         for (size_t k = 0; k < n; k++)
             tables[t][k] = odd(draw(draw(2) == 0 ? 4 : (uint32_t)n));
-    for (size_t k = 0; k < ODD_FRAMES; k++)
-        b->link[k] = odd(draw(ODD_FRAMES));
+    for (size_t k = 0; k < many; k++)
+        b->link[k] = odd(draw(many));
 }
 
-/* Refusals 1 to 3 of the six calls, on any head, lengths and tables, by the pager and by the checks in C of both compilers. */
+/* The pager, and the checks in C by both compilers. */
+static const int with_checks[] = {PAGER, CHECKED, CLANG_CHECKED};
+
+/* An address from which so many bytes end at the end of a space, just before it or just after it. */
+static size_t near_end(const corwystal_head *h, size_t many) { return ((size_t)h->pages << (h->page_shift & 31)) - many + draw(3) - 1; }
+
+/* Refusals 1 to 3 of the seven calls, on any head, lengths and tables, by the pager and by the checks in C of both compilers. */
 static void refusals(void)
 {
-    static const int engines[] = {PAGER, CHECKED, CLANG_CHECKED};
-    static const char *const calls[] = {"mark", "drop", "touch", "look", "release", "translate"};
+    static const char *const calls[] = {"mark", "drop", "touch", "look", "release", "translate", "write"};
     corwystal_board *b = all[PAGER].state, whole = *b;
     size_t n = PLACES / 2;
     for (int k = 0; k < 400000; k++) {
         corwystal_head h = {odd(4), odd(1024), odd(ODD_FRAMES), odd(ODD_SHIFT), odd(draw(ODD_FRAMES)), odd(draw(ODD_FRAMES)), odd(draw(ODD_FRAMES))};
         uint32_t space = odd(draw(4)), page = odd(draw(1024));
         size_t address = draw(8) == 0 ? SIZE_MAX - draw(512) : (size_t)page << ODD_SHIFT | draw(1 << ODD_SHIFT);
+        size_t many = draw(4) == 0 ? 0 : draw(MOST + 1), from = draw(4) == 0 ? near_end(&h, many) : address;
         if (k % 1000 == 0)
-            damage(b, n);
+            damage(b, n, ODD_FRAMES);
         b->index_len = nearly(CORWYSTAL_INDEX_WORDS(n));
         b->count_len = nearly(n);
         b->table_len = nearly(n);
@@ -287,16 +294,108 @@ static void refusals(void)
         for (size_t c = 0; c < sizeof calls / sizeof *calls; c++) {
             answer r[3];
             for (int i = 0; i < 3; i++) {
-                const engine *x = &all[engines[i]];
+                const engine *x = &all[with_checks[i]];
                 answer (*const of[])(void *, uint32_t, uint32_t) = {x->mark, x->drop, x->touch, x->look, x->release};
                 b->head = h;
-                r[i] = c < 5 ? of[c](b, space, page) : x->translate(b, space, address);
+                r[i] = c < 5 ? of[c](b, space, page) : c == 5 ? x->translate(b, space, address) : x->write(b, space, from, bytes, many);
                 if ((r[0].kind <= 3 || r[i].kind <= 3) && r[0].kind != r[i].kind)
                     fail(calls[c], x, space, page, r[0], r[i]);
             }
         }
     }
     *b = whole;
+}
+
+/* A small memory, that can be kept and compared at each call. */
+enum { FEW_SPACES = 3, FEW_PAGES = 43, FEW = FEW_SPACES * FEW_PAGES, FEW_FRAMES = 24 };
+
+typedef struct small {
+    corwystal_head head;
+    uint64_t index[CORWYSTAL_INDEX_WORDS(FEW)];
+    uint32_t count[FEW], table[FEW], helper[FEW], stack[FEW], cache[FEW], link[FEW_FRAMES];
+    uint8_t ram[FEW_FRAMES * PAGE];
+} small;
+
+/* A few calls by the pager that leave some regions, some pages and some frames. */
+static void some_calls(const engine *pager, corwystal_board *b)
+{
+    for (int k = 0; k < 6; k++) {
+        uint32_t space = draw(FEW_SPACES), page = draw(FEW_PAGES), which = draw(12);
+        answer a = which < 3    ? pager->mark(b, space, page)
+                   : which == 3 ? pager->drop(b, space, page)
+                   : which < 6  ? pager->release(b, space, page)
+                                : pager->touch(b, space, page);
+        if (a.kind <= 3 || a.kind == CORWYSTAL_NOT_OURS)
+            fail("a call", pager, space, page, (answer){CORWYSTAL_DONE, 0, 0}, a);
+    }
+}
+
+static void fail_memory(const char *what, const engine *who, uint32_t space, size_t address, size_t n)
+{
+    fprintf(stderr, "write of %zu bytes at space %u, address %zu: %s of %s\n", n, space, address, what, who->name);
+    exit(1);
+}
+
+/*
+ * Writes by the pager and by the checks in C, each from the same memory. As calls left it, all answers are the same, and so is
+ * every word of head, index and tables and every byte; damaged, refusals 1 to 3 are. Either way a refusal leaves all as it was.
+ */
+static void writes(int damaged)
+{
+    static small is, was, left[3];
+    corwystal_board b;
+    uint32_t seen = 0;
+    for (int k = 0; k < 60000; k++) {
+        b = (corwystal_board)CORWYSTAL_BOARD_INIT(is.index, is.count, is.table, is.helper, is.stack, is.cache, is.link, is.ram);
+        b.head = is.head;
+        if (damaged) {
+            b.head = (corwystal_head){odd(FEW_SPACES), odd(FEW_PAGES), odd(FEW_FRAMES), odd(8), odd(draw(FEW_FRAMES)),
+                                      odd(draw(FEW_FRAMES)), odd(draw(FEW_FRAMES))};
+            damage(&b, FEW, FEW_FRAMES);
+        } else {
+            if (k % 200 == 0)
+                expect(all[PAGER].start(&b, FEW_SPACES, FEW_PAGES, FEW_FRAMES, PAGE), CORWYSTAL_DONE, "start");
+            some_calls(&all[PAGER], &b);
+        }
+        is.head = b.head;
+        was = is;
+        b.index_len = nearly(b.index_len);
+        b.count_len = nearly(FEW);
+        b.table_len = nearly(FEW);
+        b.helper_len = nearly(FEW);
+        b.stack_len = nearly(FEW);
+        b.cache_len = nearly(FEW);
+        b.link_len = nearly(FEW_FRAMES);
+        b.ram_len = nearly(sizeof is.ram);
+        uint32_t space = odd(draw(FEW_SPACES));
+        size_t n = draw(8) == 0 ? 0 : draw(2) == 0 ? draw(PAGE) : draw(MOST + 1), address = draw(FEW_PAGES * PAGE);
+        address = draw(16) == 0 ? SIZE_MAX - draw(512) : draw(8) == 0 ? near_end(&b.head, n) : address;
+        for (size_t i = 0; i < n; i++)
+            bytes[i] = (uint8_t)draw(256);
+        answer r[3];
+        for (int i = 0; i < 3; i++) {
+            const engine *x = &all[with_checks[i]];
+            is = was;
+            b.head = was.head;
+            r[i] = x->write(&b, space, address, bytes, n);
+            is.head = b.head;
+            left[i] = is;
+            int exact = !damaged || r[0].kind <= 3 || r[i].kind <= 3;
+            if (exact && (r[0].kind != r[i].kind || r[0].words != r[i].words || r[0].value != r[i].value))
+                fail("write", x, space, (uint32_t)(address / PAGE), r[0], r[i]);
+            if (corwystal_refused(r[i]) && memcmp(&was, &is, sizeof is) != 0)
+                fail_memory("a refusal that changed memory", x, space, address, n);
+            if (!damaged && memcmp(&left[0], &is, sizeof is) != 0)
+                fail_memory("other memory than the pager's is left by that", x, space, address, n);
+        }
+        seen |= 1u << r[0].kind;
+    }
+    uint32_t wanted = 1u << CORWYSTAL_NO_SIZE | 1u << CORWYSTAL_NO_SPACE | 1u << CORWYSTAL_NO_PAGE | 1u << CORWYSTAL_NO_REGION |
+                      1u << CORWYSTAL_NO_FRAME | 1u << CORWYSTAL_DONE;
+    if (!damaged && seen != wanted) {
+        fprintf(stderr, "writes: kinds of answers %x instead of %x: draw others\n", seen, wanted);
+        exit(1);
+    }
 }
 
 int main(void)
@@ -332,6 +431,8 @@ int main(void)
         }
     }
     refusals();
+    writes(0);
+    writes(1);
     printf("check: %zu calls, the same answers\n", calls);
     engines_free(all);
     return 0;

@@ -1,5 +1,5 @@
 /*
- * What the checks cost any program: six calls of the pager written by hand in C with all that document 01 demands of
+ * What the checks cost any program: seven calls of the pager written by hand in C with all that document 01 demands of
  * every call (refusals 1 to 3 on any head and any lengths, nothing undefined on any tables), through the same long
  * entrance and over the same head and buffers. Only instruction counts are compared with it.
  */
@@ -247,4 +247,186 @@ answer checked_translate(const corwystal_head *head, uint32_t space, size_t addr
     }
     found f = find(index, t, p);
     return SAY(f.start < lo || f.start > p ? CORWYSTAL_NO_REGION : CORWYSTAL_NOT_RESIDENT, 0, 0);
+}
+
+/* The same for a write. An empty span up to the end of its space isn't refused, and does nothing. */
+static __attribute__((noinline, cold)) answer write_refusal(const corwystal_head *h, uint32_t space, size_t address,
+                                                            size_t bytes_len, size_t index_len, size_t tables,
+                                                            size_t link_len)
+{
+    answer no = refusal(h, space, index_len, tables, link_len);
+    if (no.kind == CORWYSTAL_NO_PAGE && bytes_len == 0 && address <= (size_t)h->pages << h->page_shift)
+        return SAY(CORWYSTAL_DONE, 0, 0);
+    return no;
+}
+
+/*
+ * A write of more than one page, once the checks are made: the absent pages are mapped, then all is stored. While pages of
+ * one region are mapped, its count, its newest frame and the pool are kept at hand.
+ */
+static __attribute__((noinline)) answer write_pages(corwystal_head *head, uint32_t space, size_t address,
+                                                    const uint8_t *bytes, size_t bytes_len, const uint64_t *index,
+                                                    uint32_t *count, uint32_t *table, uint32_t *helper,
+                                                    uint32_t *stack, uint32_t *cache, uint32_t *link, uint8_t *ram)
+{
+    size_t t = (size_t)head->spaces * head->pages, lo = (size_t)space * head->pages;
+    uint32_t frames = head->frames, linked = head->first, many = head->many, fresh = head->fresh, shift = head->page_shift;
+    size_t size = (size_t)1 << shift, offset = address & (size - 1), final = address + bytes_len - 1;
+    size_t first = lo + (address >> shift), last = lo + (final >> shift), tail = (final & (size - 1)) + 1, a = 0;
+    int first_is_new = !resident(t, first, count, helper, stack, cache), last_is_new = 0;
+    if (first_is_new) {
+        /* pages without a region lie below all starts: if the first has one, all have */
+        a = find(index, t, first).start;
+        if (a < lo || a > first)
+            return SAY(CORWYSTAL_NO_REGION, 0, 0);
+    }
+    if ((size_t)many + frames < fresh + (last - first + 1)) {
+        /* too few frames if all were absent: how many are? */
+        size_t absent = 0;
+        for (size_t p = first; p <= last; p++)
+            absent += !resident(t, p, count, helper, stack, cache);
+        if ((size_t)many + frames < fresh + absent)
+            return SAY(CORWYSTAL_NO_FRAME, 0, 0);
+    }
+    /* map what is absent */
+    int absent = first_is_new; /* whether page p is */
+    size_t p = first, n;
+    uint32_t newest;
+    while (p <= last) {
+        if (!absent) {
+            /* the cached start of a resident page is that of its region */
+            if (table[p] >= frames)
+                goto not_ours;
+            last_is_new = 0;
+            a = cache[p++];
+            absent = p <= last && !resident(t, p, count, helper, stack, cache);
+            continue;
+        }
+        /* a page's region is that of the page before it, unless it is a start */
+        if (marked(index, p))
+            a = p;
+        n = count[a];
+        newest = 0;
+        if (a + n >= t)
+            goto not_ours;
+        if (n != 0) {
+            size_t q = stack[a + n - 1];
+            if (q >= t)
+                goto not_ours;
+            newest = table[q];
+        }
+        do {
+            uint32_t frame;
+            if (many != 0) {
+                frame = linked;
+                if (frame >= frames)
+                    goto no_frame;
+                linked = link[frame];
+                many--;
+            } else {
+                frame = fresh;
+                if (frame >= frames)
+                    goto no_frame;
+                fresh++;
+            }
+            link[frame] = newest;
+            newest = frame;
+            table[p] = frame;
+            helper[p] = (uint32_t)n;
+            stack[a + n] = (uint32_t)p;
+            cache[p] = (uint32_t)a;
+            n++;
+            p++;
+            absent = p <= last && !resident(t, p, count, helper, stack, cache);
+        } while (absent && !marked(index, p) && a + n < t);
+        count[a] = (uint32_t)n;
+        last_is_new = 1;
+    }
+    goto store;
+no_frame: /* what should be the pool's next frame is none */
+    count[a] = (uint32_t)n;
+not_ours:
+    /* a refusal changes nothing, so where pages are mapped already the write ends before this one */
+    if (many == head->many && fresh == head->fresh)
+        return SAY(CORWYSTAL_NOT_OURS, 0, 0);
+    last = p - 1;
+    tail = size;
+store:
+    head->first = linked;
+    head->many = many;
+    head->fresh = fresh;
+    uint8_t *at = ram + ((size_t)table[first] << shift);
+    if (first_is_new && offset != 0)
+        memset(at, 0, offset);
+    memcpy(at + offset, bytes, size - offset);
+    bytes += size - offset;
+    for (p = first + 1; p < last; p++, bytes += size)
+        memcpy(ram + ((size_t)table[p] << shift), bytes, size);
+    if (last == first)
+        return SAY(CORWYSTAL_DONE, 0, 0);
+    at = ram + ((size_t)table[last] << shift);
+    if (last_is_new && tail != size)
+        memset(at + tail, 0, size - tail);
+    memcpy(at, bytes, tail);
+    return SAY(CORWYSTAL_DONE, 0, 0);
+}
+
+answer checked_write(corwystal_head *head, uint32_t space, size_t address, const uint8_t *bytes, size_t bytes_len,
+                     const uint64_t *index, size_t index_len, uint32_t *count, size_t count_len, uint32_t *table,
+                     size_t table_len, uint32_t *helper, size_t helper_len, uint32_t *stack, size_t stack_len,
+                     uint32_t *cache, size_t cache_len, uint32_t *link, size_t link_len, uint8_t *ram, size_t ram_len)
+{
+    size_t tables = lesser(lesser(count_len, table_len), lesser(helper_len, lesser(stack_len, cache_len)));
+    /* the frames that link and RAM have room for, and the bytes of a space; a shift beyond its limits is refused whatever they are */
+    size_t room = lesser(link_len, ram_len >> (head->page_shift & 31)), whole = (size_t)head->pages << (head->page_shift & 31);
+    if (!passes(head, space, index_len, tables, room) || !LIKELY(address < whole) ||
+        !LIKELY(bytes_len - 1 < whole - address))
+        return write_refusal(head, space, address, bytes_len, index_len, tables, room);
+    size_t size = (size_t)1 << head->page_shift, offset = address & (size - 1), end = offset + bytes_len;
+    if (end > size)
+        return write_pages(head, space, address, bytes, bytes_len, index, count, table, helper, stack, cache, link, ram);
+    size_t t = (size_t)head->spaces * head->pages, lo = (size_t)space * head->pages;
+    size_t p = lo + (address >> head->page_shift);
+    if (LIKELY(resident(t, p, count, helper, stack, cache))) {
+        uint32_t frame = table[p];
+        if (!LIKELY(frame < head->frames))
+            return SAY(CORWYSTAL_NOT_OURS, 0, 0);
+        memcpy(ram + ((size_t)frame << head->page_shift) + offset, bytes, bytes_len);
+        return SAY(CORWYSTAL_DONE, 0, 0);
+    }
+    size_t a = find(index, t, p).start;
+    if (a < lo || a > p)
+        return SAY(CORWYSTAL_NO_REGION, 0, 0);
+    if (head->many == 0 && head->fresh >= head->frames)
+        return SAY(CORWYSTAL_NO_FRAME, 0, 0);
+    size_t n = count[a], newest = 0;
+    if (a + n >= t || (head->many != 0 && head->first >= head->frames))
+        return SAY(CORWYSTAL_NOT_OURS, 0, 0);
+    if (n != 0) {
+        size_t q = stack[a + n - 1];
+        if (q >= t)
+            return SAY(CORWYSTAL_NOT_OURS, 0, 0);
+        newest = table[q];
+    }
+    uint32_t frame;
+    if (head->many != 0) {
+        frame = head->first;
+        head->first = link[frame];
+        head->many--;
+    } else {
+        frame = head->fresh++;
+    }
+    link[frame] = (uint32_t)newest;
+    table[p] = frame;
+    helper[p] = (uint32_t)n;
+    stack[a + n] = (uint32_t)p;
+    cache[p] = (uint32_t)a;
+    count[a] = (uint32_t)n + 1;
+    uint8_t *at = ram + ((size_t)frame << head->page_shift);
+    if (offset != 0)
+        memset(at, 0, offset);
+    if (end != size)
+        memset(at + end, 0, size - end);
+    memcpy(at + offset, bytes, bytes_len);
+    return SAY(CORWYSTAL_DONE, 0, 0);
 }

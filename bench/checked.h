@@ -1,5 +1,5 @@
 /*
- * Six of the pager's calls by hand in C with the pager's checks: the arguments are those of corwystal.h. The faces hand over
+ * Seven of the pager's calls by hand in C with the pager's checks: the arguments are those of corwystal.h. The faces hand over
  * the pager's own record (faces.c).
  */
 #ifndef CHECKED_H
@@ -33,11 +33,17 @@ answer checked_translate(const corwystal_head *head, uint32_t space, size_t addr
                          size_t table_len, const uint32_t *helper, size_t helper_len, const uint32_t *stack,
                          size_t stack_len, const uint32_t *cache, size_t cache_len);
 
+answer checked_write(corwystal_head *head, uint32_t space, size_t address, const uint8_t *bytes, size_t bytes_len,
+                     const uint64_t *index, size_t index_len, uint32_t *count, size_t count_len, uint32_t *table,
+                     size_t table_len, uint32_t *helper, size_t helper_len, uint32_t *stack, size_t stack_len,
+                     uint32_t *cache, size_t cache_len, uint32_t *link, size_t link_len, uint8_t *ram, size_t ram_len);
+
 answer face_mark(corwystal_board *b, uint32_t space, uint32_t page);
 answer face_drop(corwystal_board *b, uint32_t space, uint32_t page);
 answer face_touch(corwystal_board *b, uint32_t space, uint32_t page);
 answer face_look(corwystal_board *b, uint32_t space, uint32_t page);
 answer face_release(corwystal_board *b, uint32_t space, uint32_t page);
 answer face_translate(corwystal_board *b, uint32_t space, size_t address);
+answer face_write(corwystal_board *b, uint32_t space, size_t address, const uint8_t *bytes, size_t n);
 
 #endif

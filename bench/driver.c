@@ -32,6 +32,7 @@ TWIN(face_touch);
 TWIN(face_look);
 TWIN(face_release);
 TWIN(face_translate);
+TWIN(face_write);
 
 /* An engine with all its calls, in the order of the record. */
 #define WHOLE(unit)                                                                                                    \
@@ -41,7 +42,7 @@ TWIN(face_translate);
 /* What the calls with the checks haven't of their own is the pager's. */
 #define CHECKS(unit)                                                                                                   \
     FACE(corwystal_board_start), FACE(unit##_mark), FACE(unit##_drop), FACE(unit##_touch), FACE(unit##_look),          \
-        FACE(unit##_release), FACE(unit##_translate), FACE(corwystal_board_read), FACE(corwystal_board_write)
+        FACE(unit##_release), FACE(unit##_translate), FACE(corwystal_board_read), FACE(unit##_write)
 
 /* ---- buffers */
 

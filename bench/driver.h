@@ -24,7 +24,7 @@ typedef struct engine {
     uint8_t *ram;
 } engine;
 
-/* Those after the third use the memory of one of the three. Start, read and write of those with the checks are the pager's. */
+/* Those after the third use the memory of one of the three. Start and read of those with the checks are the pager's. */
 enum { PAGER, METHOD, CLEARED, ENGINES, CHECKED = ENGINES, CLANG_METHOD, CLANG_CLEARED, CLANG_CHECKED, ALL };
 
 /* Engines with room for these sizes, every table full of garbage. */

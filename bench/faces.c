@@ -35,3 +35,10 @@ answer face_translate(corwystal_board *b, uint32_t space, size_t address)
     return checked_translate(&b->head, space, address, b->index, b->index_len, b->count, b->count_len, b->table,
                              b->table_len, b->helper, b->helper_len, b->stack, b->stack_len, b->cache, b->cache_len);
 }
+
+answer face_write(corwystal_board *b, uint32_t space, size_t address, const uint8_t *bytes, size_t n)
+{
+    return checked_write(&b->head, space, address, bytes, n, b->index, b->index_len, b->count, b->count_len, b->table,
+                         b->table_len, b->helper, b->helper_len, b->stack, b->stack_len, b->cache, b->cache_len,
+                         b->link, b->link_len, b->ram, b->ram_len);
+}

@@ -37,9 +37,9 @@ use Rattle.surveying.specs.Surveys.{AllResident, Counted, writeRefusal, Settled
 use Rattle.mapping.specs.Touches.{all-sizes, touched-lengths}
 use Rattle.mapping.specs.Spans.{SpanTouched, OneTouched}
 use Rattle.storing.specs.Stores.{frame-stored}
-use Rattle.writing.specs.Writing.{SpanAdmitted, write-admitted, span-pages-inside, spanRefusal, refusedWith, touch-settles, write-refused}
-use Rattle.writing.specs.Writing.{write-done}
-use Rattle.writing.proofs.Resident.{resident-there, resident-touched}
+use Rattle.faulting.specs.Writing.{SpanAdmitted, write-admitted, span-pages-inside, spanRefusal, refusedWith, touch-settles, write-refused}
+use Rattle.faulting.specs.Writing.{write-done}
+use Rattle.faulting.specs.Resident.{resident-there, resident-touched}
 
 -- the number of the check
 pub number-is : (k : Memory) (i x : ℕ) (vs : List ℕ) {no : ℕ} {inside : Bool} → no ≡ checkOf (k .head) (everyLength k) i inside

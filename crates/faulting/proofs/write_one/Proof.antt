@@ -5,9 +5,9 @@ use Prim.Native.Nat.{_/_}
 use lib.ListN.{length}
 use borrow.Author.Needs.{needs}
 use Rattle.memory.specs.Memory.{Memory, memory, sizesOf}
-use Rattle.writing.proofs.Written.{Spanned, span-there, span-touchable, next-span, next-table, one-refused, one-done}
-use Rattle.writing.proofs.write_one.Statement.{statement}
-use Rattle.writing.proofs.write_one.Tie as tie
+use Rattle.faulting.specs.Written.{Spanned, span-there, span-touchable, next-span, next-table, one-refused, one-done}
+use Rattle.faulting.proofs.write_one.Statement.{statement}
+use Rattle.faulting.proofs.write_one.Tie as tie
 
 -- the memory lent
 abbrev lent : tie.Start → Memory
