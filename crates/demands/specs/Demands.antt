@@ -12,8 +12,8 @@ use Rattle.machine.specs.declared.Copied.{Copied}
 use Rattle.machine.specs.declared.Copied.the-variants as copied-is
 use Rattle.machine.specs.declared.Listed.{Listed}
 use Rattle.machine.specs.declared.Listed.the-variants as listed-is
-use Rattle.machine.specs.Machine.{Sizes, State, begun, Lent, Call, release, free, translate, read, write, list, asked, ramAt, withRam, recordsOf, Answer, done, at, bytes}
-use Rattle.machine.specs.Machine.{frames, regions, answers, after, afterAll}
+use Rattle.machine.specs.Machine.{Sizes, State, begun, Lent, Call, release, free, translate, read, write, list, asked, ramAt, withRam, recordsOf, Answer}
+use Rattle.machine.specs.Machine.{done, at, bytes, frames, regions, answers, after, afterAll}
 use Rattle.machine.specs.Claims.{residentPages, timesFree, timesHeld, isRefused, Address, Same, Spared}
 use Rattle.memory.specs.Memory.{Memory, sizesOf, lengths}
 use Rattle.promise.specs.Holds.{Roomy}

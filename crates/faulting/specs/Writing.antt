@@ -92,7 +92,8 @@ touch-settles m p w a = go (pageOf m p)
         new-one (touched-is.New h c) e = refl
         new-one (touched-is.Refused k c) e = absurd (let z : _≡_ {A = ℕ} 0 1 = cc in omega arith)
 
-    go : (g : Page) → touchedSays a ≡ touchPage m p w g .answer → refusedWith a ≡ writeRefusal (isOutside g || false) (ltb (length (m .pool)) (isUnmapped g + 0))
+    go : (g : Page) → touchedSays a ≡ touchPage m p w g .answer
+        → refusedWith a ≡ writeRefusal (isOutside g || false) (ltb (length (m .pool)) (isUnmapped g + 0))
     go outside e = same-number 4 w a e
     go (unmapped g) e = from-pool g (m .pool) e
     go (mapped g f) e = rw (le-ltb (length (m .pool)) 0 zero-le) (old-one a e)
@@ -183,7 +184,8 @@ module _ (i x : ℕ) (vs : List ℕ) (k : Memory) (passes : asked (sizesOf (k .h
                 below = w .fills .below;
                 stored =
                     rw (stores, ← words-same refl (w .fills .stored))
-                    (subst (λ (y : Sizes). Words (length vs) (y .frames * y .page) (k₁ .ram) (storedAt (placeBy (k₁ .head) i (k₁ .table)) x vs (k₁ .ram))) (t .sizes)
+                    (subst
+                    (λ (y : Sizes). Words (length vs) (y .frames * y .page) (k₁ .ram) (storedAt (placeBy (k₁ .head) i (k₁ .table)) x vs (k₁ .ram))) (t .sizes)
                     (span-words (k₁ .head) i x vs (k₁ .table) (k₁ .ram) (subst (λ (y : Sizes). 0 < y .page) (sym (t .sizes)) pos)));
               };
         }

@@ -192,7 +192,8 @@ module _ {k : Memory} {i x : ℕ} {vs : List ℕ} {first pages : ℕ} (s : Spann
           space = subst (λ (y : Sizes). i < y .spaces) back (admitted .space);
           ends = subst (λ (y : Sizes). x + length vs ≤ spaceBytes y) back (admitted .fits);
           ram-long =
-              omega (arith, admitted .lent .ram refl, t .alike .long, ap (λ (l : Lent). l .ram) same-lengths, ap (λ (y : Sizes). y .frames * y .page) same-sizes);
+              let room = admitted .lent .ram refl in
+              omega (arith, room, t .alike .long, ap (λ (l : Lent). l .ram) same-lengths, ap (λ (y : Sizes). y .frames * y .page) same-sizes);
         }
 
     pub next-table : places (sizesOf (k₁ .head)) ≤ length (k₁ .table)

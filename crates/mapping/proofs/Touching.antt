@@ -51,7 +51,8 @@ module _ {i x n done : ℕ} {k k₁ : Memory} (s : SoFar i x n done k k₁) wher
       }
 
   module _ (low : done < n) (pos : 0 < sizesOf (k .head) .page) (size : ℕ)
-      (is : size ≡ min (sizesOf (k .head) .page - (x + done) % sizesOf (k .head) .page) (n - done)) (b : ℕ) (page-is : b ≡ (x + done) / sizesOf (k .head) .page)
+      (is : size ≡ min (sizesOf (k .head) .page - (x + done) % sizesOf (k .head) .page) (n - done)) (b : ℕ)
+      (page-is : b ≡ (x + done) / sizesOf (k .head) .page)
     where
       abbrev z : Sizes
       z = sizesOf (k .head)
@@ -76,7 +77,8 @@ module _ {i x n done : ℕ} {k k₁ : Memory} (s : SoFar i x n done k k₁) wher
                 (page-is ∙ sym next) d));
             alike =
                 rw (table-is, ram-is)
-                (alike-more (k .head) (k₁ .head) same-sizes i x done size b pos page-is fits (pages-before z x n pos done (s .pages) low) (k₁ .table) (s .zeros)
+                (alike-more (k .head) (k₁ .head) same-sizes i x done size b pos page-is fits (pages-before z x n pos done (s .pages) low)
+                (k₁ .table) (s .zeros)
                 (k₁ .ram) inside a below (s .alike));
           }
 

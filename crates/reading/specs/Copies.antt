@@ -24,7 +24,8 @@ use Rattle.spans.specs.PartLaws.{part-ends}
 
 -- these are the n bytes from address x of space i on, on every memory with this head, page table and RAM
 abbrev pub CopiedBy : Head → List ℕ → List ℕ → ℕ → ℕ → ℕ → List ℕ → Type 0
-CopiedBy h table ram i x n bytes = (index count helper stack cache link : List ℕ) → CopiedOut (memory h index count table helper stack cache link ram) i x n bytes
+CopiedBy h table ram i x n bytes =
+    (index count helper stack cache link : List ℕ) → CopiedOut (memory h index count table helper stack cache link ram) i x n bytes
 
 -- out of frame f, where the machine has the page in it
 copied-from : (k : Memory) (i x n : ℕ) → Part (k .head) i x n (k .ram) → (f : ℕ) → f < k .head .frames

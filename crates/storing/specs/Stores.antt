@@ -32,7 +32,7 @@ module _ (h : Head) (i x : ℕ) (vs table ram : List ℕ) (fits : x % sizesOf h 
 
   -- the table's word of each address of the part
   same-word : (k : ℕ) → k < length vs
-      → placeBy h i table (x + k) ≡ cond (ltb (at table (pageOfAddress (sizesOf h) i x)) (h .frames)) (some (placeIn h (at table (pageOfAddress (sizesOf h) i x)) x + k)) none
+      → let f = at table (pageOfAddress (sizesOf h) i x) in placeBy h i table (x + k) ≡ cond (ltb f (h .frames)) (some (placeIn h f x + k)) none
   same-word k l =
       let s = same-page (sizesOf h .page) x k (omega arith) in
       let one = ap (λ (c : ℕ). at table (placeOf (sizesOf h) i c)) (s .0) in
@@ -43,7 +43,8 @@ module _ (h : Head) (i x : ℕ) (vs table ram : List ℕ) (fits : x % sizesOf h 
   pub none-stored : h .frames ≤ at table (pageOfAddress (sizesOf h) i x) → ram ≡ storedAt (placeBy h i table) x vs ram
   none-stored high = sym (stored-nowhere (placeBy h i table) x vs ram (λ k l. same-word k l ∙ rw (le-ltb frame (h .frames) high)))
 
-  pub frame-stored : (f : ℕ) → f ≡ at table (pageOfAddress (sizesOf h) i x) → f < h .frames → sets ram (placeIn h f x) vs ≡ storedAt (placeBy h i table) x vs ram
+  pub frame-stored : (f : ℕ) → f ≡ at table (pageOfAddress (sizesOf h) i x) → f < h .frames
+      → sets ram (placeIn h f x) vs ≡ storedAt (placeBy h i table) x vs ram
   frame-stored f is below =
       let low : frame < h .frames = omega arith in
       ap (λ (g : ℕ). sets ram (placeIn h g x) vs) is

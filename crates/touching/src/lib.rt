@@ -30,7 +30,8 @@ fn clear_new(head: Head, answer: Touched, ram: &mut [u8])
     }
 }
 
-// The page's frame, mapped if need be; a new page reads as zeros. It looks for itself: through `touch_checked` the compiler would hand the head over in memory.
+// The page's frame, mapped if need be; a new page reads as zeros. It looks for itself: through `touch_checked` the compiler would hand the head
+// over in memory.
 pub fn touch(
     head: Head,
     space: u32,

@@ -7,7 +7,12 @@ use Rattle.checks.proofs.product.Tie as tie
 
 mul-result : tie.Need-mul-result
 mul-result c =
-    omega (arith, c .fits .a, c .fits .b, mul-le-mul {n₁ = c .args .a} {m₁ = c .args .b} {n₂ = 4294967295} {m₂ = 4294967295} (omega (arith, c .fits .a)) (omega (arith, c .fits .b)))
+    omega (
+      arith,
+      c .fits .a,
+      c .fits .b,
+      mul-le-mul {n₁ = c .args .a} {m₁ = c .args .b} {n₂ = 4294967295} {m₂ = 4294967295} (omega (arith, c .fits .a)) (omega (arith, c .fits .b)),
+    )
 
 pub product-spec : {M : Type 1} → statement M
 product-spec = tie.close (tie.spec mul-result (λ c. search needs))

@@ -19,7 +19,8 @@ use Rattle.corwystal.proofs.corwystal_touch.Code as code
 pub corwystal-touch-spec : {M : Type 1} → stated.statement M
 unfolding code.routine
 corwystal-touch-spec 𝓤 H 𝓜 𝓖 𝓡 =
-    exporting 𝓤 H 𝓜 𝓖 𝓡 (headMut ∷ word w32 ∷ word w32 ∷ shared u64 ∷ unique u32 ∷ unique u32 ∷ unique u32 ∷ unique u32 ∷ unique u32 ∷ unique u32 ∷ unique u8 ∷ [])
+    exporting 𝓤 H 𝓜 𝓖 𝓡
+    (headMut ∷ word w32 ∷ word w32 ∷ shared u64 ∷ unique u32 ∷ unique u32 ∷ unique u32 ∷ unique u32 ∷ unique u32 ∷ unique u32 ∷ unique u8 ∷ [])
     R.the-row
     (λ κs a. g.spec 𝓤 H (𝓖 .A) (𝓜 .mem) (𝓡 .run) κs a .ensures tt) (λ x. h.spec 𝓤 H (𝓖 .A) (𝓜 .mem) (𝓡 .run) tt (x, tt) .ensures tt)
     (λ κs a. f.spec 𝓤 H (𝓖 .A) (𝓜 .mem) (𝓡 .run) κs a .ensures tt) (EL.lawful R.the-type R′.the-laws 𝓤 H (𝓖 .A) (givenOf 𝓤 H 𝓜 𝓖) tt) refl

@@ -12,8 +12,8 @@ use Rattle.sequence.specs.Sums.{hit-same}
 use Rattle.machine.specs.declared.PageCall.the-variants.{Touch}
 use Rattle.machine.specs.Machine.{Sizes, State, Lent, Page, outside, unmapped, mapped, placeOf, pageOf, wordsAt, pageOfAddress, spanPages, ramAt, Call, page}
 use Rattle.machine.specs.Machine.{read, write, asked, Answer, bytes, Out, tell, withPair, touchNew, touchPage, touchAt, touchAll, spanAbsence}
-use Rattle.machine.specs.Machine.{byteIn, byteAt, readIf, storeIn, storedAt, stored, withRam, storeAll, spanTouched, spanOutside, spanShort, writeIf, refusal, accepted}
-use Rattle.machine.specs.Machine.{unless, step, answer, after}
+use Rattle.machine.specs.Machine.{byteIn, byteAt, readIf, storeIn, storedAt, stored, withRam, storeAll, spanTouched, spanOutside, spanShort, writeIf, refusal}
+use Rattle.machine.specs.Machine.{accepted, unless, step, answer, after}
 use Rattle.machine.specs.Claims.{Sound}
 use Rattle.machine.specs.Laws.Kept.{sound-stored}
 use Rattle.machine.specs.Laws.Steps.{sound-touched, sound-all-touched}

@@ -21,28 +21,35 @@ span : (s : tie.Start)
     (spanPages z (s .args .address) (length (s .args .bytes .now)))
 span s = record { passes = s .pre .0; first-is = refl; pages-is = refl }
 
+-- the touch, from where its number is known
+abbrev touched : tie.After-number → tie.After-touch-one
+touched c = c .before .before .before .before .before .before .before .before .before .before .before .before .before .before .before .before
+
 abbrev entry : tie.After-touch-one → tie.Start
 entry c = c .before .before .before .before .before .before .before .before .before .before .before .before .before .before .before .before .before
 
 touch-one-requires : tie.Need-touch-one-requires
-touch-one-requires c κs = let s = c .before .before .before .before .before .before .before .before .before .before .before .before .before .before .before .before in (span-there (span s), span-touchable (span s), s .pre .1)
+touch-one-requires c κs =
+    let s = c .before .before .before .before .before .before .before .before .before .before .before .before .before .before .before .before in
+    (span-there (span s), span-touchable (span s), s .pre .1)
 
 returns : tie.Need-returns
 returns c =
-    let t = c .before .before .before .before .before .before .before .before .before .before .before .before .before .before .before .before .before in
+    let t = touched (c .before) in
     let n = c .before .number .ensures in
     rw n (one-refused (span (entry t)) (entry t .pre .1) (t .touch-one .ensures) (λ e. c .if1 .taken (n ∙ e)))
 
 store-requires : tie.Need-store-requires
 store-requires c κs =
-    let t = c .before .before .before .before .before .before .before .before .before .before .before .before .before .before .before .before .before .before .before in
+    let t = touched (c .before .before .before) in
     let s = span (entry t) in
     (next-span s (t .touch-one .ensures .span), next-table s (t .touch-one .ensures .span))
 
 returns-2 : tie.Need-returns-2
 returns-2 c =
-    let t = c .before .before .before .before .before .before .before .before .before .before .before .before .before .before .before .before .before .before .before .before .before .before in
-    one-done (span (entry t)) (entry t .pre .1) (t .touch-one .ensures) (sym (c .before .before .before .before .before .before .number .ensures) ∙ c .before .before .before .before .before .if1 .left)
+    let n = c .before .before .before .before .before .before in
+    let t = touched n in
+    one-done (span (entry t)) (entry t .pre .1) (t .touch-one .ensures) (sym (n .number .ensures) ∙ c .before .before .before .before .before .if1 .left)
     (c .before .before .store .ensures)
 
 pub write-one-spec : {M : Type 1} → statement M

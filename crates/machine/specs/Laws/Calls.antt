@@ -11,12 +11,12 @@ use lib.ListN.{length}
 use Rattle.machine.specs.declared.PageCall.{PageCall}
 use Rattle.machine.specs.declared.PageCall.the-variants.{Mark, Drop, Touch, Look, Release}
 use Rattle.machine.specs.Machine.{Sizes, placeOf, sizesOk, spaceBytes, spanPages, pageOfAddress, State, Lent, isStart, startOf, wordsAt, pageOf, enough}
-use Rattle.machine.specs.Machine.{Call, start, page, free, translate, read, write, list, uses, facts, pageFacts, tablesAndRam, everyBuffer, lends, lentOk}
-use Rattle.machine.specs.Machine.{refusal, sizesBy, sizesFor, asked, Effect, unchanged, prepared, startPut, pageMapped, regionEmptied, spanStored, Kind}
-use Rattle.machine.specs.Machine.{ended, touched, looked, released, counted, translated, copied, listed, refusalOf, Answer, done, Out, tell, withRam}
-use Rattle.machine.specs.Machine.{markAt, dropAt, spanOutside, spanShort, accepted, unless, step, answer, after, afterAll}
-use Rattle.machine.specs.Claims.{Sound, Address, isRefused, shows, orZero, inRun, isBeginning, aimsAt, aims, ends, showsBy, showsFrom, showsAfter, Spared}
-use Rattle.machine.specs.Claims.{MayChangeBy, MayChange}
+use Rattle.machine.specs.Machine.{Call, start, page, free, translate, read, write, list, uses, facts, pageFacts, tablesAndRam, everyBuffer, lends}
+use Rattle.machine.specs.Machine.{lentOk, refusal, sizesBy, sizesFor, asked, Effect, unchanged, prepared, startPut, pageMapped, regionEmptied, spanStored}
+use Rattle.machine.specs.Machine.{Kind, ended, touched, looked, released, counted, translated, copied, listed, refusalOf, Answer, done, Out, tell}
+use Rattle.machine.specs.Machine.{withRam, markAt, dropAt, spanOutside, spanShort, accepted, unless, step, answer, after, afterAll}
+use Rattle.machine.specs.Claims.{Sound, Address, isRefused, shows, orZero, inRun, isBeginning, aimsAt, aims, ends, showsBy, showsFrom, showsAfter}
+use Rattle.machine.specs.Claims.{Spared, MayChangeBy, MayChange}
 use Rattle.machine.specs.Laws.Sizes.{both, passed}
 use Rattle.machine.specs.Laws.Kept.{sound-begun}
 use Rattle.machine.specs.Laws.Steps.{sound-marked-or-not, sound-dropped-or-not, sound-touched, sound-released-or-not, sound-written, touch-sizes}
@@ -24,7 +24,8 @@ use Rattle.machine.specs.Laws.Steps.{write-sizes, page-place}
 use Rattle.machine.specs.Laws.Changes.{KeptIfRefused, mark-kept, drop-kept, touch-kept, release-kept, write-kept, mark-start, drop-start, touch-region}
 use Rattle.machine.specs.Laws.Changes.{release-region, write-span, may-stay}
 use Rattle.machine.specs.Laws.Shows.{shows-started, touched-shows, released-shows, written-shows}
-use Rattle.machine.specs.Laws.Unseen.{Alike, same-answer, told-alike, mark-alike, drop-alike, touch-alike, release-alike, read-alike, write-alike, list-alike}
+use Rattle.machine.specs.Laws.Unseen.{Alike, same-answer, told-alike, mark-alike, drop-alike, touch-alike, release-alike, read-alike, write-alike}
+use Rattle.machine.specs.Laws.Unseen.{list-alike}
 
 -- the RAM is long enough for the sizes that the call's buffers are to be long enough for
 abbrev pub RamRoom : State → Call → Type 0

@@ -9,9 +9,9 @@ use native.Mathlib.Nat.{not-suc-le-zero}
 use lib.Dec.{eqb}
 use lib.ListN.{length, getD}
 use Rattle.sequence.specs.Lists.{tabulate-same, getD-same}
-use Rattle.machine.specs.Machine.{Sizes, places, placeOf, pageOfAddress, spanPages, sizesBy, Pair, State, region, startOf, ramAt, Call, start, page, free, translate}
-use Rattle.machine.specs.Machine.{read, write, list, facts, Effect, unchanged, prepared, startPut, pageMapped, regionEmptied, spanStored, Answer, bytes}
-use Rattle.machine.specs.Machine.{byteIn, byteAt, withRam, answer, after, answers}
+use Rattle.machine.specs.Machine.{Sizes, places, placeOf, pageOfAddress, spanPages, sizesBy, Pair, State, region, startOf, ramAt}
+use Rattle.machine.specs.Machine.{Call, start, page, free, translate, read, write, list, facts, Effect, unchanged, prepared, startPut, pageMapped}
+use Rattle.machine.specs.Machine.{regionEmptied, spanStored, Answer, bytes, byteIn, byteAt, withRam, answer, after, answers}
 use Rattle.machine.specs.Claims.{Sound, Address, isRefused, isStartAt, shownAt, shows, orZero, inRun, inSpan, showsBy, showsFrom}
 use Rattle.machine.specs.Laws.Kept.{sound-stored}
 use Rattle.machine.specs.Laws.Pairs.{shows-none}

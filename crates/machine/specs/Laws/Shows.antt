@@ -21,8 +21,8 @@ use Rattle.machine.specs.Laws.Kept.{start-below, sound-paired, sound-emp
 use Rattle.machine.specs.Laws.Steps.{sound-touched, sound-all-touched}
 use Rattle.machine.specs.Laws.Holders.{ram-mapped, ram-below, same-byte}
 use Rattle.machine.specs.Laws.Zeroed.{zeroed-in, zeroed-out}
-use Rattle.machine.specs.Laws.Pairs.{Holder, mapped-holder, holder-mapped, not-held, shows-held, shows-none, shows-same, new-holder, old-holder, was-holder}
-use Rattle.machine.specs.Laws.Pairs.{kept-holder, left-holder}
+use Rattle.machine.specs.Laws.Pairs.{Holder, mapped-holder, holder-mapped, not-held, shows-held, shows-none, shows-same, new-holder, old-holder}
+use Rattle.machine.specs.Laws.Pairs.{was-holder, kept-holder, left-holder}
 use Rattle.machine.specs.Laws.Stays.{held-inside, Grown, grown-touched, grown-all-touched, IsMapped, touch-maps, any-outside-same, absent-less, or-false}
 use Rattle.machine.specs.Laws.Stays.{span-mapped}
 use Rattle.machine.specs.Laws.Storing.{stored-other, stored-at}
@@ -155,7 +155,8 @@ run-more q k p = elim (ℕ-discrete p q) [
     | yes l ↦ rw (ne-eqb p q d, lt-leb q p l, lt-leb (suc q) p (omega arith))
     | no l ↦ elim (decLt p (q + suc k)) [
       | yes h ↦ rw (ne-eqb p q d, le-leb q p (omega arith), le-leb (suc q) p (omega arith), lt-ltb p (q + suc k) h, lt-ltb p (suc q + k) (omega arith))
-      | no h ↦ rw (ne-eqb p q d, le-leb q p (omega arith), le-leb (suc q) p (omega arith), le-ltb p (q + suc k) (omega arith), le-ltb p (suc q + k) (omega arith))
+      | no h ↦
+          rw (ne-eqb p q d, le-leb q p (omega arith), le-leb (suc q) p (omega arith), le-ltb p (q + suc k) (omega arith), le-ltb p (suc q + k) (omega arith))
     ]
   ]
 ]

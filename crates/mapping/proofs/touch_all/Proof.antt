@@ -75,7 +75,8 @@ page-low c =
 touchable : (c : tie.After-page-of Inv-loop μ-loop)
     → let t = c .before .before in
     let l = t .before .loop in
-    Touchable (l .after) (entry t .args .space) (c .page-of .result) (entry t .args .index .now) (l .count) (l .table) (l .helper) (l .stack) (l .cache) (l .link)
+    Touchable (l .after) (entry t .args .space) (c .page-of .result) (entry t .args .index .now) (l .count) (l .table) (l .helper) (l .stack) (l .cache)
+    (l .link)
 touchable c =
     let t = c .before .before in
     let f = so-far t in
@@ -168,7 +169,12 @@ loop-again c =
     let f = so-far t in
     touched-more f (t .loop-test .taken) (pos t) (p .before .part .result) (p .before .part .ensures) (p .page-of .result) (p .page-of .ensures)
     (u .touch-checked .result .answer) _ (u .touch-checked .ensures .0 (f .zeros) (ram-long t)) (u .touch-checked .ensures .1) (v .clear-new .ensures)
-    (omega (arith, place-below (sizesOf (s .args .head)) (s .args .space) (p .page-of .result) (s .pre .0 .space) (page-low p), s .pre .1 _ (page-low p) .ready .table-long, ap (λ (l : Lent). l .table) (same-lengths f)))
+    (omega (
+      arith,
+      place-below (sizesOf (s .args .head)) (s .args .space) (p .page-of .result) (s .pre .0 .space) (page-low p),
+      s .pre .1 _ (page-low p) .ready .table-long,
+      ap (λ (l : Lent). l .table) (same-lengths f),
+    ))
     (below u)
 
 same-length : tie.Need-same-length Inv-loop μ-loop

@@ -67,8 +67,9 @@ returns c =
     let u = touched (v .before) in
     let p = paged u in
     let s = entry p in
-    one-span (s .args .space) (s .args .address) (s .args .n) (lent s) (all-of-one s) (p .page-of .result) (p .page-of .ensures) (u .touch-checked .result .answer) _
-    (u .touch-checked .ensures .0 (s .args .ram .now) (s .pre .0 .ram-long)) (u .touch-checked .ensures .1) (v .clear-new .ensures)
+    one-span (s .args .space) (s .args .address) (s .args .n) (lent s) (all-of-one s) (p .page-of .result) (p .page-of .ensures)
+    (u .touch-checked .result .answer) _ (u .touch-checked .ensures .0 (s .args .ram .now) (s .pre .0 .ram-long)) (u .touch-checked .ensures .1)
+    (v .clear-new .ensures)
     (omega (
       arith,
       place-below (sizesOf (s .args .head)) (s .args .space) (p .page-of .result) (s .pre .0 .space) (page-low p),

@@ -21,7 +21,8 @@ touch-seen-requires c κs = (_, due (c .before .before .before .before .before .
 returns : tie.Need-returns
 returns c =
     let touched = c .before .before .before .before .before .before .before .before .before .before .before .before in
-    (λ ram long. touched .touch-seen .ensures .0 _ ram (due (touched .before .before .before .before .before .before .before)) long, touched .touch-seen .ensures .1)
+    let seen = touched .before .before .before .before .before .before .before in
+    (λ ram long. touched .touch-seen .ensures .0 _ ram (due seen) long, touched .touch-seen .ensures .1)
 
 pub touch-checked-spec : {M : Type 1} → statement M
 touch-checked-spec =

@@ -38,7 +38,11 @@ map-page-requires c κs =
     touch-mappable _ _ _ _ _ _ _ _ _ _ (due .can) _ (planned plan _ due) _ _ (chosen .todo2 .given .1) _ (placed .place .ensures)
 
 returns : tie.Need-returns
-returns c = (λ index ram due long. did-old _ _ _ _ _ _ _ _ _ _ (due .can) _ (planned (c .before .before .before) index due) ram long _ (c .before .todo .given .1), refl)
+returns c = (
+  λ index ram due long.
+      did-old _ _ _ _ _ _ _ _ _ _ (due .can) _ (planned (c .before .before .before) index due) ram long _ (c .before .todo .given .1),
+  refl,
+)
 
 returns-2 : tie.Need-returns-2
 returns-2 c =
@@ -48,7 +52,8 @@ returns-2 c =
       λ index ram due long.
           did-new _ _ _ _ _ _ _ _ _ _ (due .can) _ (planned (chosen .before .before) index due) ram long _ _ _ _ _ _ _ _ _ _ (chosen .todo2 .given .1)
           (placed .place .ensures) (mapped .map-page .ensures),
-      mapped .map-page .ensures .table-is ∙ ap (λ (p : ℕ). set (entry (chosen .before .before) .args .table .now) p (mapped .map-page .result .frame)) (placed .place .ensures),
+      mapped .map-page .ensures .table-is
+          ∙ ap (λ (p : ℕ). set (entry (chosen .before .before) .args .table .now) p (mapped .map-page .result .frame)) (placed .place .ensures),
     )
 
 returns-3 : tie.Need-returns-3

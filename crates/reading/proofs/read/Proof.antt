@@ -121,7 +121,8 @@ returns-3 c = λ link.
     let k = lent (entry (e .before)) link in
     read-copied _ _ k _ _ (checked (e .before) link) (e .if1 .left) _ _ (p .before .page-of .ensures) (p .pages .ensures)
     _ (omega (arith, t .if2 .taken))
-    (resident-more k _ _ _ (omega arith) (resident-none _ _ _) (asks t link) (l .look-checked .result) (l .look-checked .ensures link _) _ (f .seen .given .1)) _
+    (resident-more k _ _ _ (omega arith) (resident-none _ _ _) (asks t link) (l .look-checked .result) (l .look-checked .ensures link _) _
+    (f .seen .given .1)) _
     (looked-copied k _ _ _ (part t) _ _ (p .before .page-of .ensures) (l .look-checked .result) (f .seen .given .1) (asks t link)
     (l .look-checked .ensures link _) _ (c .before .before .copy-frame .ensures))
 

@@ -50,7 +50,9 @@ add-end : tie.Need-add-end
 add-end c = omega (arith, end-small (c .before .before .before .before .before .before .before .before .before .pre))
 
 all-resident-requires : tie.Need-all-resident-requires
-all-resident-requires c κs = let s = c .before .before .before .before .before .before .before .before .before .before .before .before .before .before .pre in (_, omega arith, end-inside s, span-lookable s)
+all-resident-requires c κs =
+    let s = c .before .before .before .before .before .before .before .before .before .before .before .before .before .before .pre in
+    (_, omega arith, end-inside s, span-lookable s)
 
 store-requires : tie.Need-store-requires
 store-requires c κs = let s = entry (c .before .before .before) .pre in (span-there s, table-there s)

@@ -28,7 +28,8 @@ returns c =
 
 returns-2 : tie.Need-returns-2
 returns-2 c = let f = c .before .before in let a = entry f .args in
-    none-stored (a .head) (a .space) (a .x) (a .src .now) (a .table .now) (a .ram .now) (entry f .pre .0 .fits) (omega (arith, f .frame-at .ensures, c .if1 .left))
+    none-stored (a .head) (a .space) (a .x) (a .src .now) (a .table .now) (a .ram .now) (entry f .pre .0 .fits)
+    (omega (arith, f .frame-at .ensures, c .if1 .left))
 
 pub write-part-spec : {M : Type 1} → statement M
 write-part-spec = tie.close (tie.spec frame-at-requires store-frame-requires (λ c. search needs) returns returns-2)

@@ -60,7 +60,9 @@ frame-of-requires c κs =
     (_, span-lookable s (t .before .before .page-of .result) (omega (arith, end-inside s, t .if2 .taken)))
 
 store-frame-requires : tie.Need-store-frame-requires
-store-frame-requires c κs = let t = c .before .before .before .before .before .before .before .before .before in ((_, one-part (span (t .before)) (t .if2 .taken)), c .before .if3 .taken)
+store-frame-requires c κs =
+    let t = c .before .before .before .before .before .before .before .before .before in
+    ((_, one-part (span (t .before)) (t .if2 .taken)), c .before .if3 .taken)
 
 returns-2 : tie.Need-returns-2
 returns-2 c =
