@@ -3,3 +3,4 @@ pub mod Steps
 pub mod Packed
 pub mod PutBit
 pub mod Seek
+pub mod Counts

@@ -1,0 +1,76 @@
+-- The processor's count of leading zeros: 63 less the count is the place of the highest bit set.
+use mathlib.Core.Path.{_≡_, sym, ap, _∙_}
+use mathlib.Core.Bool.{true, false}
+use mathlib.Core.Option.{none, some}
+use Prim.Native.Nat.{ℕ, suc, _-_, _*_, _/_, _%_, _^_, _≤_, _<_}
+use native.Mathlib.Nat.{div-eq-of-lt-le, lt-of-lt-of-le, mod-eq-of-lt, mod-lt, one-mul}
+use native.Mathlib.Omega.{arith}
+use lib.Bits.{bitAnd, and-mask}
+use lib.Count.{leadingZeros, leading-top}
+use lib.Dec.{lit<}
+use lib.Pow.{pow-lt, pow-mono, pow-pos}
+use Rattle.places.specs.Places.{lastBelow}
+use Rattle.places.specs.Laws.{below-ext, below-is, below-no, below-skip}
+use Rattle.layer.specs.Words.{bit}
+use Rattle.layer.specs.Packed.{bit-high, bit-pack, pack-bits}
+
+top-set : (w j : ℕ) → 2 ^ j ≤ w → w < 2 ^ suc j → bit w j ≡ true
+unfolding bit
+top-set w j lo hi = let e : w / 2 ^ j ≡ 1 = div-eq-of-lt-le (2 ^ j) (omega arith) (omega arith) in rw e
+
+-- "Say once for all words but 0: 63 less the count is the place of the highest bit set."
+pub highest-bit : (w : ℕ) → 0 < w → w < 2 ^ 64 → lastBelow (bit w) 64 ≡ some (63 - leadingZeros 64 w)
+highest-bit w pos fits =
+    let t = leading-top 64 w pos fits in
+    let j = t .0 in
+    let made = t .1 in
+    let e : 63 - leadingZeros 64 w ≡ j = omega arith in
+    rw e (below-is (bit w) 64 j (record { low = omega arith; member = top-set w j (t .2) (t .3); clear = λ i x _. bit-high w (suc j) i (t .3) x }))
+
+-- a word but 0 has at most 63 leading zeros
+pub count-low : (w : ℕ) → 0 < w → w < 2 ^ 64 → leadingZeros 64 w ≤ 63
+count-low w pos fits =
+    let t = leading-top 64 w pos fits in
+    let made = t .1 in
+    omega arith
+
+-- ---- the bits below n by themselves, as the code makes them
+
+pub whole-word : (w n : ℕ) → w < 2 ^ 64 → n ≡ 64 → w ≡ w % 2 ^ n
+whole-word w n l e = rw e (sym (mod-eq-of-lt l))
+
+module _ (n : ℕ) (h : n ≤ 64) (d : n ≡ 64 → ⊥) where
+  shifted : 1 * 2 ^ n % 2 ^ 64 ≡ 2 ^ n
+  shifted = let l : n < 64 = omega arith in rw (one-mul, mod-eq-of-lt (pow-lt {j = 64} l))
+
+  pub shifted-some : 1 ≤ 1 * 2 ^ n % 2 ^ 64
+  shifted-some = rw shifted (pow-pos n)
+
+  pub masked-word : (w : ℕ) → bitAnd w (1 * 2 ^ n % 2 ^ 64 - 1) ≡ w % 2 ^ n
+  masked-word w = rw shifted (and-mask w n)
+
+-- ---- the highest of them
+
+module _ (w n low : ℕ) (is : low ≡ w % 2 ^ n) where
+  bit-low : (j : ℕ) → j < n → bit w j ≡ bit low j
+  bit-low j l = sym (ap (λ (x : ℕ). bit x j) (is ∙ sym (pack-bits w n)) ∙ bit-pack (bit w) n j l)
+
+  low-lt : low < 2 ^ n
+  low-lt = rw is (mod-lt w (pow-pos n))
+
+  pub none-below : low ≡ 0 → none ≡ lastBelow (bit w) n
+  none-below e = sym (below-no (bit w) n (λ j l. bit-low j l ∙ ap (λ (x : ℕ). bit x j) e ∙ bit-high 0 0 j (lit< tt) (omega arith)))
+
+  module _ (h : n ≤ 64) (d : low ≡ 0 → ⊥) where
+    word-lt : low < 2 ^ 64
+    word-lt = lt-of-lt-of-le low-lt (pow-mono h)
+
+    pub count-below : leadingZeros 64 low ≤ 63
+    count-below = count-low low (omega arith) word-lt
+
+    pub some-below : some (63 - leadingZeros 64 low) ≡ lastBelow (bit w) n
+    some-below =
+        sym
+        (below-ext (bit w) (bit low) n bit-low
+        ∙ sym (below-skip (bit low) n 64 h (λ j x _. bit-high low n j low-lt x))
+        ∙ highest-bit low (omega arith) word-lt)
