@@ -2,8 +2,8 @@
 """Looks through a static library's object code for what a kernel can't have, and tells how much stack each exported call needs and how long it can be.
 
     inspect.py LIBRARY      the faults, a line each, and status 1; or a line for each exported function: its name, its bytes of stack,
-                            its instructions at most, or - if it has a loop over pages, regions or bytes, and which of memmove and
-                            memset it calls, itself or by what it calls
+                            its instructions at most, or - if it has a loop, and which of memmove and memset it calls, itself or by
+                            what it calls
 
 An interrupt on the stack of what it interrupts writes below the stack pointer; its handler may change every register that it need not save;
 a kernel has no dynamic linker, no C library but memmove and memset, and may call with any stack. So of every function this asks:
@@ -16,7 +16,7 @@ of each exported one, with all that it calls:
   - no call of memmove or memset but those of MAY_CALL, so that no head goes through memory by one; and those copy the caller's bytes and clear what
     it lent only. A copy or a fill of a record, such as a head, differs from these in one of two ways: it goes to or from the function's own stack, or
     its length is a constant. Both are followed to the call, the constant through registers; either on any path is a fault;
-  - no loop, of those of NO_LOOPS: a jump back is one if control can come from its target to it again (others lead to a common end);
+  - no loop but in those of MAY_LOOP: a jump back is one if control can come from its target to it again (others lead to a common end);
 and of the library: no writable data, no thread's or constructors' sections, no relocation but R_X86_64_PLT32, no undefined name but memmove and memset.
 The bytes of stack of a function are those below its caller's stack pointer at the call: its return address, its frame and the deepest of its callees.
 memmove and memset are counted with their return address alone. The instructions are those of the longest path, callees included.
@@ -28,10 +28,8 @@ import sys
 KERNEL_HAS = {"memmove", "memset"}
 # What an exported function may call of these, itself or by what it calls. All others: nothing.
 MAY_CALL = {"corwystal_start": {"memset"}, "corwystal_touch": {"memset"}, "corwystal_read": {"memmove"}, "corwystal_write": {"memmove", "memset"}}
-# Exported functions without any loop: constant time, whatever the memory. Touch, look, translate and mark join them when the find has no loop over
-# bits any more (request W-204).
-NO_LOOPS = {"corwystal_release", "corwystal_free_count", "corwystal_drop", "corwystal_sizes"}
-BIT_LOOPS = {"index::find_checked": 64}  # functions whose loops all go over the bits of one word, and how often at most
+# Exported functions that go over regions or pages. All others: no loop, so a longest path, whatever the memory.
+MAY_LOOP = {"corwystal_list", "corwystal_read", "corwystal_write"}
 WIDTHS = {
     "rax": "eax ax al ah", "rbx": "ebx bx bl bh", "rcx": "ecx cx cl ch", "rdx": "edx dx dl dh",
     "rsi": "esi si sil", "rdi": "edi di dil", "rbp": "ebp bp bpl", "rsp": "esp sp spl",
@@ -372,24 +370,16 @@ def loops(name, walks, by_target, faults):
 
 
 def longest_of(name, walks, by_target):
-    """The instructions of the longest path, or None if there is a loop that isn't over a word's bits."""
+    """The instructions of the longest path, or None if there is a loop."""
     walk = walks[name]
     callees = {at: by_target.get(target) for at, target in walk.f.reaches.items()}
     most = {}
     for part in loops_of(walk):
-        cost = 0
-        for at in part:
-            below = longest_of(callees[at], walks, by_target) if callees.get(at) else 0
-            if below is None:
-                return None
-            cost += 1 + below
-        if len(part) > 1 or part[0] in walk.next[part[0]]:
-            if name not in BIT_LOOPS:
-                return None
-            cost *= BIT_LOOPS[name] + 1
-        after = max((most[to] for at in part for to in walk.next[at] if to not in part), default=0)
-        for at in part:
-            most[at] = cost + after
+        at = part[0]
+        below = longest_of(callees[at], walks, by_target) if callees.get(at) else 0
+        if below is None or len(part) > 1 or at in walk.next[at]:
+            return None
+        most[at] = 1 + below + max((most[to] for to in walk.next[at]), default=0)
     return most[min(walk.next)]
 
 
@@ -414,7 +404,7 @@ def main():
     for name in exported:
         if name in walks:
             copies(name, walks, by_target, faults)
-            if name in NO_LOOPS:
+            if name not in MAY_LOOP:
                 loops(name, walks, by_target, faults)
     try:
         needs = {name: stack_of(name, walks, by_target) for name in exported if name in walks}

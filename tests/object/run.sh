@@ -143,10 +143,10 @@ named corwystal_start 'mov $28, %edx' 'jmp memset@PLT' | wrong fill_of_a_head 'a
 named corwystal_release '1: dec %edi' 'jne 1b' 'ret' | wrong loop 'corwystal_release: a loop, by the jump back to 0x0'
 named corwystal_free_count 'jmp 2f' '1: dec %edi' '2: test %edi, %edi' 'jne 1b' 'ret' | wrong loop_from_its_middle 'corwystal_free_count: a loop'
 named corwystal_drop '1: jmp 1b' | wrong endless 'corwystal_drop: a loop'
-by_callee corwystal_release '1: shr %rdi' 'jne 1b' 'ret' | wrong loop_below 'corwystal_release: a loop, by the jump back to 0x0 at below'
+by_callee corwystal_touch '1: shr %rdi' 'jne 1b' 'ret' | wrong loop_below 'corwystal_touch: a loop, by the jump back to 0x0 at below'
 named corwystal_release 'jmp 2f' '1: ret' '2: test %edi, %edi' 'je 1b' 'mov $28, %edx' 'jmp 1b' | right jumps_back
 named corwystal_read 'mov $28, %edx' 'mov %r9, %rdx' 'jmp memmove@PLT' | right copies_bytes
-named corwystal_touch '1: dec %edi' 'jne 1b' 'ret' | right may_loop
+named corwystal_read '1: dec %edi' 'jne 1b' 'ret' | right may_loop
 by_callee corwystal_touch 'mov $1, %edx' 'shl %cl, %rdx' 'jmp memset@PLT' | right clears_a_page
 grep -qx 'corwystal_touch 24 7 memset' "$made/told" || fail "a call of memset by a callee is not told: $(cat "$made/told")"
 named corwystal_write 'push %rbx' 'mov %r9, %rdx' 'call memset@PLT' 'mov %rbx, %rdx' 'call memmove@PLT' 'pop %rbx' 'ret' | right clears_and_copies
