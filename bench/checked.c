@@ -1,7 +1,7 @@
 /*
  * What the checks cost any program: seven calls of the pager written by hand in C with all that document 01 demands of
  * every call (refusals 1 to 3 on any head and any lengths, nothing undefined on any tables), through the same long
- * entrance and over the same head and buffers. Only instruction counts are compared with it.
+ * entrance and over the same head and buffers. Instructions are compared with it, and the times of calls on a resident page.
  */
 #include "checked.h"
 
@@ -136,6 +136,43 @@ answer checked_drop(const corwystal_head *head, uint32_t space, uint32_t page, u
     return SAY(CORWYSTAL_DONE, 0, 0);
 }
 
+/*
+ * The page at place p of the region at a gets the pool's first frame, which is the answer's value, or the call is refused.
+ * Always inlined: clang would call it, and C by hand would be dearer for it.
+ */
+static inline __attribute__((always_inline)) answer map_page(corwystal_head *head, size_t t, size_t a, size_t p,
+                                                             uint32_t words, uint32_t *count, uint32_t *table,
+                                                             uint32_t *helper, uint32_t *stack, uint32_t *cache,
+                                                             uint32_t *link)
+{
+    if (head->many == 0 && head->fresh >= head->frames)
+        return SAY(CORWYSTAL_NO_FRAME, words, 0);
+    size_t n = count[a], newest = 0;
+    if (a + n >= t || (head->many != 0 && head->first >= head->frames))
+        return SAY(CORWYSTAL_NOT_OURS, words, 0);
+    if (n != 0) {
+        size_t q = stack[a + n - 1];
+        if (q >= t)
+            return SAY(CORWYSTAL_NOT_OURS, words, 0);
+        newest = table[q];
+    }
+    uint32_t frame;
+    if (head->many != 0) {
+        frame = head->first;
+        head->first = link[frame];
+        head->many--;
+    } else {
+        frame = head->fresh++;
+    }
+    link[frame] = (uint32_t)newest;
+    table[p] = frame;
+    helper[p] = (uint32_t)n;
+    stack[a + n] = (uint32_t)p;
+    cache[p] = (uint32_t)a;
+    count[a] = (uint32_t)n + 1;
+    return SAY(CORWYSTAL_NEW, words, frame);
+}
+
 answer checked_touch(corwystal_head *head, uint32_t space, uint32_t page, const uint64_t *index, size_t index_len,
                      uint32_t *count, size_t count_len, uint32_t *table, size_t table_len, uint32_t *helper,
                      size_t helper_len, uint32_t *stack, size_t stack_len, uint32_t *cache, size_t cache_len,
@@ -154,33 +191,10 @@ answer checked_touch(corwystal_head *head, uint32_t space, uint32_t page, const 
     found f = find(index, t, p);
     if (f.start < lo || f.start > p)
         return SAY(CORWYSTAL_NO_REGION, f.words, 0);
-    if (head->many == 0 && head->fresh >= head->frames)
-        return SAY(CORWYSTAL_NO_FRAME, f.words, 0);
-    size_t a = f.start, n = count[a], newest = 0;
-    if (a + n >= t || (head->many != 0 && head->first >= head->frames))
-        return SAY(CORWYSTAL_NOT_OURS, f.words, 0);
-    if (n != 0) {
-        size_t q = stack[a + n - 1];
-        if (q >= t)
-            return SAY(CORWYSTAL_NOT_OURS, f.words, 0);
-        newest = table[q];
-    }
-    uint32_t frame;
-    if (head->many != 0) {
-        frame = head->first;
-        head->first = link[frame];
-        head->many--;
-    } else {
-        frame = head->fresh++;
-    }
-    link[frame] = (uint32_t)newest;
-    table[p] = frame;
-    helper[p] = (uint32_t)n;
-    stack[a + n] = (uint32_t)p;
-    cache[p] = (uint32_t)a;
-    count[a] = (uint32_t)n + 1;
-    memset(ram + ((size_t)frame << head->page_shift), 0, (size_t)1 << head->page_shift);
-    return SAY(CORWYSTAL_NEW, f.words, frame);
+    answer made = map_page(head, t, f.start, p, f.words, count, table, helper, stack, cache, link);
+    if (made.kind == CORWYSTAL_NEW)
+        memset(ram + ((size_t)made.value << head->page_shift), 0, (size_t)1 << head->page_shift);
+    return made;
 }
 
 answer checked_look(const corwystal_head *head, uint32_t space, uint32_t page, const uint64_t *index, size_t index_len,
@@ -397,32 +411,10 @@ answer checked_write(corwystal_head *head, uint32_t space, size_t address, const
     size_t a = find(index, t, p).start;
     if (a < lo || a > p)
         return SAY(CORWYSTAL_NO_REGION, 0, 0);
-    if (head->many == 0 && head->fresh >= head->frames)
-        return SAY(CORWYSTAL_NO_FRAME, 0, 0);
-    size_t n = count[a], newest = 0;
-    if (a + n >= t || (head->many != 0 && head->first >= head->frames))
-        return SAY(CORWYSTAL_NOT_OURS, 0, 0);
-    if (n != 0) {
-        size_t q = stack[a + n - 1];
-        if (q >= t)
-            return SAY(CORWYSTAL_NOT_OURS, 0, 0);
-        newest = table[q];
-    }
-    uint32_t frame;
-    if (head->many != 0) {
-        frame = head->first;
-        head->first = link[frame];
-        head->many--;
-    } else {
-        frame = head->fresh++;
-    }
-    link[frame] = (uint32_t)newest;
-    table[p] = frame;
-    helper[p] = (uint32_t)n;
-    stack[a + n] = (uint32_t)p;
-    cache[p] = (uint32_t)a;
-    count[a] = (uint32_t)n + 1;
-    uint8_t *at = ram + ((size_t)frame << head->page_shift);
+    answer made = map_page(head, t, a, p, 0, count, table, helper, stack, cache, link);
+    if (made.kind != CORWYSTAL_NEW)
+        return made;
+    uint8_t *at = ram + ((size_t)made.value << head->page_shift);
     if (offset != 0)
         memset(at, 0, offset);
     if (end != size)

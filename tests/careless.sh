@@ -1,7 +1,7 @@
 #!/usr/bin/env bash
 # Builds libraries that no kernel can have, which the tests of the object code and of the board must find wrong:
 #     target/ordinary/libcorwystal.a    as `rt staticlib` alone builds it, without what bindings/library adds for a kernel. What the compiler then does
-#                                       differs from version to version of the source; today start uses a vector register
+#                                       differs from version to version of the source; today start and write use vector registers
 #     target/careless/libcorwystal.a    the kernel's, with a release that keeps one argument below the stack pointer and a look that keeps one in a
 #                                       vector register over some hundred instructions, as compilers do where nobody tells them of kernels
 set -euo pipefail

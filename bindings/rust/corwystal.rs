@@ -94,7 +94,7 @@ pub enum Refusal {
     NoFrame = 8,
     /// Head or tables are not what these calls left: trust no page and start anew.
     NotOurs = 9,
-    /// The page is in a region, but was not written since its release: there is nothing to read.
+    /// The page is in a region, but was neither touched nor written since its release: there is nothing to read.
     NotResident = 10,
     /// Fewer records than regions: lend a longer slice; as many as a space has pages are always enough.
     NoRoom = 11,

@@ -152,6 +152,6 @@ grep -qx 'corwystal_touch 24 7 memset' "$made/told" || fail "a call of memset by
 named corwystal_write 'push %rbx' 'mov %r9, %rdx' 'call memset@PLT' 'mov %rbx, %rdx' 'call memmove@PLT' 'pop %rbx' 'ret' | right clears_and_copies
 grep -qx 'corwystal_write 24 7 memmove memset' "$made/told" || fail "calls of both are not told: $(cat "$made/told")"
 
-instructions=$(objdump -d "$library" | grep -cE '^ +[0-9a-f]+:.*	[a-z]')
+instructions=$(objdump -d --no-show-raw-insn "$library" | grep -cE '^ *[0-9a-f]+:')
 echo "object: $(nm "$library" | grep -c ' [tT] ') functions, $instructions instructions: general registers only, nothing below the stack pointer;" \
     "$(find "$made" -name '*.a' | wc -l) faulty pieces found"

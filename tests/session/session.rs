@@ -1,5 +1,5 @@
 // The session program of document 01, which says what the program `session_program` must answer: one line for
-// each line of a script. Written from the document alone, whose words stand in quotation marks; it
+// each line of a script. Written from document 01 and request W-201, whose words stand in quotation marks; it
 // plays the calls on the plain machine, ../plain/plain.rs, and knows no table and no layer.
 // Built for `run.sh broken` it is wrong in one way, wrong.rs.
 use std::io::{BufRead, BufReader, BufWriter, Result, Write};
@@ -21,7 +21,7 @@ const BYTES: usize = 256;
 // "as do a number of more than 9 digits", whatever it starts with
 const DIGITS: usize = 9;
 
-// "no answer since a start depends on the RAM's starting contents": session_program's is 0, and this is not. A wrong one has 0 as
+// W-201: "no answer since a start depends on the RAM's starting contents": session_program's is 0, and this is not. A wrong one has 0 as
 // well, so that it is found by what the calls leave.
 const OLD: u8 = if cfg!(broken) { 0 } else { 0xA5 };
 

@@ -5,11 +5,13 @@ use crate::anything::{Anything, HEAD, OWN, PARTS};
 use crate::draw::Draw;
 use crate::entrance::{self, Answer, Head};
 use crate::garbage::KINDS;
-use crate::memory::{COUNT, INDEX, LINK, NAMES, RAM};
+use crate::memory::{COUNT, INDEX, LINK, NAMES, RAM, TABLE};
 use crate::plain::{Ask, Call, Lent, Sizes};
 use crate::tally::{lacks_ram_alone, line, which, ANSWERS};
 use crate::traffic::favourites;
 use crate::watch;
+use std::collections::BTreeSet;
+use std::ops::Range;
 
 #[derive(Default)]
 pub struct Count {
@@ -438,8 +440,9 @@ impl Round {
             }
             Ask::Release(..) => (most[COUNT], most[LINK], most[HEAD]) = (1, 1, 7),
             Ask::Read(..) => (most[OWN], needed[OWN]) = (own, own),
-            Ask::Write(_, address, bytes) if !bytes.is_empty() => {
+            Ask::Write(space, address, bytes) if !bytes.is_empty() => {
                 let span = sizes.span(*address, bytes.len() as u64);
+                let places = sizes.place(*space, span.start)..sizes.place(*space, span.end);
                 let mapped = self.mapped(before).unwrap_or(u64::MAX);
                 if mapped > span.end - span.start {
                     return Err("and took other frames than its pages may need".to_string());
@@ -447,7 +450,15 @@ impl Round {
                 most[COUNT..=LINK].fill(mapped as usize);
                 most[RAM] = bytes.len() + mapped as usize * sizes.page as usize;
                 most[HEAD] = if mapped == 0 { 0 } else { 7 };
-                let likeliest = self.likeliest(&before.sizes(), mapped);
+                if !self.memory.changed(TABLE).iter().all(|entry| places.contains(&(*entry as u64))) {
+                    return Err("and changed the page table at another page than its own".to_string());
+                }
+                let theirs = self.frames_at(places);
+                let others = (0..sizes.frames).filter(|frame| !theirs.contains(frame));
+                if others.map(|frame| self.frame(&sizes, frame)[0]).sum::<usize>() > 0 {
+                    return Err("and changed bytes of a frame that no page of its span has".to_string());
+                }
+                let likeliest = self.likeliest(&before.sizes(), theirs, mapped);
                 if self.cost(&before.sizes(), &likeliest) > bytes.len() {
                     return Err(format!(
                         "and no {mapped} frames cleared and {} bytes stored give the RAM",
@@ -510,14 +521,23 @@ impl Round {
         costs.sum()
     }
 
-    // So many frames, of which it is the likeliest that they were cleared: nobody says which a write took on such memory, and it can
-    // be one frame twice.
-    fn likeliest(&self, sizes: &Sizes, many: u64) -> Vec<u64> {
+    // The frames that the page table now has at these places, each once.
+    fn frames_at(&self, places: Range<u64>) -> Vec<u64> {
+        let words = self.memory.now(TABLE).chunks_exact(4);
+        let words = words.map(|word| u64::from(u32::from_le_bytes(word.try_into().unwrap())));
+        let frames = words.skip(places.start as usize).take((places.end - places.start) as usize);
+        let frames = frames.filter(|frame| *frame < u64::from(self.memory.head().frames));
+        let frames: BTreeSet<u64> = frames.collect();
+        frames.into_iter().collect()
+    }
+
+    // So many of these frames, of which it is the likeliest that they were cleared: nobody says which of its span's a write took on such
+    // memory, and it can be one frame twice.
+    fn likeliest(&self, sizes: &Sizes, mut frames: Vec<u64>, many: u64) -> Vec<u64> {
         let gain = |frame: &u64| {
             let [changed, left] = self.frame(sizes, *frame);
             changed as isize - left as isize
         };
-        let mut frames: Vec<u64> = (0..sizes.frames).collect();
         frames.sort_by_cached_key(|frame| -gain(frame));
         frames.truncate(many as usize);
         let least = usize::from(many > 0);

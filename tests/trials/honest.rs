@@ -281,7 +281,7 @@ impl Trial<'_> {
         match (&call.ask, answer.kind) {
             (_, 1..=11) => {}
             (Ask::Start(_), _) => words[HEAD] = 7,
-            // "One word in each of the six tables"
+            // "one word in each of the six tables"
             (Ask::Touch(..), entrance::NEW) => {
                 words[HEAD] = 7;
                 words[chosen].fill(1);

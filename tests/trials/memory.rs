@@ -9,6 +9,7 @@ use crate::watch::{Arena, Slot, Wanted, PAGE};
 // The eight buffers in a call's order, then what a call fills or reads for its caller, and the head.
 pub const INDEX: usize = 0;
 pub const COUNT: usize = 1;
+pub const TABLE: usize = 2;
 pub const LINK: usize = 6;
 pub const RAM: usize = 7;
 pub const READ: usize = 8;

@@ -107,8 +107,19 @@ pub enum Seen {
     Case(Case),
 }
 
-#[derive(Clone, Copy, Debug, PartialEq, Eq, Hash)]
-pub enum Case {
+// One list makes the cases and what must have been met of them, so that none is left out of it.
+macro_rules! cases {
+    ($($case:ident,)*) => {
+        #[derive(Clone, Copy, Debug, PartialEq, Eq, Hash)]
+        pub enum Case {
+            $($case,)*
+        }
+
+        const CASES: &[Case] = &[$(Case::$case,)*];
+    };
+}
+
+cases! {
     // at full size
     AllFramesReleasedAtOnce,
     TenThousandRecords,
@@ -149,44 +160,6 @@ pub enum Case {
     // "1 also when the RAM lent to touch is too short"
     ResidentPageTouchedWithoutItsRam,
 }
-
-use Case::*;
-
-const CASES: [Case; 33] = [
-    AllFramesReleasedAtOnce,
-    TenThousandRecords,
-    FiveThousandPagesRead,
-    FiveThousandPagesWritten,
-    ThreeThousandPagesMappedByAWrite,
-    NoFrameOf65536,
-    MarkedAgainWithResidentPages,
-    DroppedNoStartWithResidentPages,
-    TouchedOutsideWithoutFrames,
-    WroteOutsideWithoutFrames,
-    ListedNoSpaceWithoutRoom,
-    WroteWithTheLastFrame,
-    TooFewFramesForAWrite,
-    ReadUpToAnAbsentPage,
-    EmptyReadAtTheEnd,
-    EmptyWriteAtTheEnd,
-    EmptyReadOutside,
-    EmptyWriteOutside,
-    EmptyReadBeyondTheEnd,
-    EmptyWriteBeyondTheEnd,
-    EmptyRegionReleased,
-    NoRecordForNoRegion,
-    JustEnoughRecords,
-    MoreRecordsThanRegions,
-    OneRecordTooFew,
-    FarBeyondTheSpace,
-    TouchedOverOldBytes,
-    MappedOverOldBytesAfterALaterStart,
-    WroteBehindOldBytes,
-    WroteBeforeOldBytes,
-    WroteBesideOldBytesAndMapped,
-    RefusedWriteWithOldBytesToClear,
-    ResidentPageTouchedWithoutItsRam,
-];
 
 #[derive(Default)]
 pub struct Tally {
@@ -258,7 +231,7 @@ impl Tally {
 }
 
 fn wanted() -> Vec<Seen> {
-    let mut wanted: Vec<Seen> = CASES.map(Seen::Case).to_vec();
+    let mut wanted: Vec<Seen> = CASES.iter().copied().map(Seen::Case).collect();
     for ask in examples() {
         let name = CALLS[which(&ask)];
         let answers = ANSWERS[which(&ask)];

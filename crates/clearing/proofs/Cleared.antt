@@ -9,9 +9,8 @@ use lib.ListN.{length, take, drop, replicate, length-drop, length-replicate}
 use lib.Seq.{sets, sets-eq, drop-drop, length-take-le}
 use Rattle.machine.specs.Machine.{zeroed}
 use Rattle.machine.specs.Laws.Sizes.{fit}
-use Rattle.memory.specs.Memory.{sizesOf}
+use Rattle.memory.specs.Memory.{sizesOf, placeIn}
 use Rattle.memory.specs.declared.Head.{Head}
-use Rattle.spans.specs.Parts.{placeIn}
 use Rattle.spans.specs.Shifted.{page-small}
 use Rattle.clearing.specs.Clears.{Frame, zeroedAround}
 

@@ -1,16 +1,17 @@
 -- On any memory: the bounds of what mapping a page changes.
-use mathlib.Core.Path.{_≡_, refl, subst}
+use mathlib.Core.Path.{_≡_, refl, sym, ap, _∙_, subst}
 use mathlib.Core.List.{List, [], _∷_}
 use Prim.Native.Nat.{ℕ, zero, suc, _+_, _<_}
 use native.Mathlib.Nat.{add-zero}
 use native.Mathlib.Omega.{arith}
-use lib.ListN.{set}
-use lib.Seq.{drop-set-lt}
+use lib.ListN.{length, getD, set}
+use lib.Seq.{drop-set-lt, getD-set-same, getD-set-other}
 use Rattle.sequence.specs.Lists.{Each}
 use Rattle.sequence.specs.Changes.{changed-set}
+use Rattle.machine.specs.Machine.{placeOf, pageMapped}
 use Rattle.memory.specs.Memory.{Memory, sizesOf}
 use Rattle.memory.specs.declared.Head.{Head}
-use Rattle.promise.specs.Did.{Words, framesLeft, Maps, Writes}
+use Rattle.promise.specs.Did.{Words, framesLeft, Maps, FrameOf, Writes, NewPage}
 use Rattle.promise.specs.Shown.{Shown}
 use Rattle.pool.specs.Models.{takenFrom, taken}
 use Rattle.laws.specs.Refusals.{words-none}
@@ -33,8 +34,9 @@ one-less link h zero e low = omega arith
 one-less link h (suc n) e low = omega arith
 
 -- what mapping may change: one word in each table, and the bytes of the frame
-map-bounds : (k : Memory) (i b p a : ℕ) → (Shown k i b → ⊥) → Inside k p a → Maps (sizesOf (k .head)) i b 1 k (mapPage k a p)
-map-bounds k i b p a hidden g =
+map-bounds : (k : Memory) (i b p a : ℕ) → p ≡ placeOf (sizesOf (k .head)) i b → (Shown k i b → ⊥) → Inside k p a
+    → Maps (sizesOf (k .head)) i b 1 k (mapPage k a p)
+map-bounds k i b p a is hidden g =
     record {
       mapped = 1;
       taken = one-less (k .link) (k .head) (k .head .many) refl (g .frame);
@@ -49,22 +51,43 @@ map-bounds k i b p a hidden g =
       stack = words-set _ (k .stack) _ p (g .top);
       cache = words-set _ (k .cache) p a (g .place);
       link = words-set _ (k .link) _ _ (g .frame);
+      others = λ q d. getD-set-other (k .table) p q _ 0 (λ e. d 0 (omega arith) (ap (placeOf (sizesOf (k .head)) i) (add-zero b) ∙ sym is ∙ sym e));
     }
 
-pub map-writes : (k : Memory) (i b p a : ℕ) → (Shown k i b → ⊥) → Inside k p a → Writes (sizesOf (k .head)) i b 1 0 k (mapPage k a p)
+-- the frame taken is the page's
+map-put : (k : Memory) (p a : ℕ) → p < length (k .table) → getD (mapPage k a p .table) p 0 ≡ taken (k .link) (k .head) .frame
+map-put k p a long = getD-set-same (k .table) p _ 0 long
+
+pub map-tells : (k : Memory) (i b p a : ℕ) → p ≡ placeOf (sizesOf (k .head)) i b → p < length (k .table) → Inside k p a
+    → NewPage (pageMapped i b) (taken (k .link) (k .head) .frame) k (mapPage k a p)
+map-tells k i b p a is long g = (
+  one-less (k .link) (k .head) (k .head .many) refl (g .frame),
+  ap (λ (q : ℕ). getD (mapPage k a p .table) q 0) (sym is) ∙ map-put k p a long,
+  refl,
+)
+
+pub map-writes : (k : Memory) (i b p a : ℕ) → p ≡ placeOf (sizesOf (k .head)) i b → p < length (k .table) → (Shown k i b → ⊥) → Inside k p a
+    → Writes (sizesOf (k .head)) i b 1 0 (λ q. ⊥) k (mapPage k a p)
 unfolding map-bounds
-map-writes k i b p a hidden g =
+map-writes k i b p a is long hidden g =
     record {
-      maps = map-bounds k i b p a hidden g;
+      maps = map-bounds k i b p a is hidden g;
       fills =
           record {
             frames = taken (k .link) (k .head) .frame ∷ [];
             one-each = refl;
-            below = one-below (g .frame);
+            below = each-one (λ f. f < k .head .frames) (g .frame);
+            own = each-one (FrameOf (sizesOf (k .head)) i b 1 (mapPage k a p .table)) (0, omega arith, here);
             stored = words-none 0 _ _;
+            others = λ q d. refl;
           };
     }
   where
-    one-below : {f : ℕ} → f < k .head .frames → Each 0 (λ g. g < k .head .frames) (f ∷ [])
-    one-below l zero h = l
-    one-below l (suc j) h = absurd (omega arith)
+    each-one : (P : ℕ → Type 0) {f : ℕ} → P f → Each 0 P (f ∷ [])
+    each-one P l zero h = l
+    each-one P l (suc j) h = absurd (omega arith)
+
+    here : getD (mapPage k a p .table) (placeOf (sizesOf (k .head)) i (b + 0)) 0 ≡ taken (k .link) (k .head) .frame
+    here =
+        ap (λ (q : ℕ). getD (mapPage k a p .table) q 0) (ap (placeOf (sizesOf (k .head)) i) (add-zero b) ∙ sym is)
+        ∙ map-put k p a long

@@ -18,9 +18,10 @@ use Rattle.machine.specs.Machine.{countAbsent, storedAt, stored, storeAll, span
 use Rattle.machine.specs.Laws.Sizes.{both, Fit, fit, some-bytes, passed, page-below}
 use Rattle.machine.specs.Laws.Shows.{in-pages}
 use Rattle.machine.specs.Laws.Stays.{IsMapped, grown-all-touched, span-mapped}
-use Rattle.memory.specs.Memory.{Memory, withBytes, sizesOf, lengths}
+use Rattle.machine.specs.Laws.Storing.{stored-other}
+use Rattle.memory.specs.Memory.{Memory, withBytes, sizesOf, lengths, placeBy}
 use Rattle.promise.specs.Holds.{Holds}
-use Rattle.promise.specs.Did.{Among, Words, Writes, Did}
+use Rattle.promise.specs.Did.{Among, Words, PlaceOf, Writes, Did}
 use Rattle.promise.specs.Refuses.{words-same}
 use Rattle.laws.specs.Bytes.{bytes-hold}
 use Rattle.laws.specs.Spans.{AllTouched}
@@ -29,7 +30,6 @@ use Rattle.laws.specs.Passing.{every-long}
 use Rattle.laws.specs.Told.{from-four, told-did}
 use Rattle.surveying.specs.Surveys.{writeRefusal}
 use Rattle.mapping.specs.Touches.{all-writes, all-touched-holds}
-use Rattle.spans.specs.Parts.{placeBy}
 use Rattle.storing.specs.Stores.{SpanMapped, span-words, span-stored}
 
 -- ---- the check
@@ -154,7 +154,8 @@ module _ (i x : ℕ) (vs : List ℕ) (k : Memory) (passes : asked (sizesOf (k .h
         rw is (bytes-hold m₁ k₁ ram h₁)
 
     -- the touches' words and clearing, and the bytes of the span
-    bounds : Writes (sizesOf (k .head)) i (x / sizesOf (k .head) .page) (spanPages (sizesOf (k .head)) x (length vs)) (length vs) k (withBytes k₁ ram)
+    bounds : Writes (sizesOf (k .head)) i (x / sizesOf (k .head) .page) (spanPages (sizesOf (k .head)) x (length vs)) (length vs)
+        (PlaceOf (k₁ .head) i x (length vs) (k₁ .table)) k (withBytes k₁ ram)
     bounds =
         let z = sizesOf (k .head) in
         let w = all-writes touched in
@@ -176,12 +177,17 @@ module _ (i x : ℕ) (vs : List ℕ) (k : Memory) (passes : asked (sizesOf (k .h
                 stack = t .stack;
                 cache = t .cache;
                 link = t .link;
+                others = t .others;
               };
           fills =
               record {
                 frames = w .fills .frames;
                 one-each = w .fills .one-each;
                 below = w .fills .below;
+                own = w .fills .own;
+                others = λ p d.
+                    rw (stores, ← words-same refl (w .fills .stored))
+                    (stored-other (placeBy (k₁ .head) i (k₁ .table)) x vs (k₁ .ram) p (λ j l e. d (j, l, e)));
                 stored =
                     rw (stores, ← words-same refl (w .fills .stored))
                     (subst
@@ -197,6 +203,7 @@ module _ (i x : ℕ) (vs : List ℕ) (k : Memory) (passes : asked (sizesOf (k .h
           asks = rw passes refl;
           stays = λ e. absurd (let z : _≡_ {A = ℕ} 0 1 = cc in omega arith);
           bounds = bounds;
+          tells = λ f w is. tt;
           honest = λ m h.
               let s = none-refused (spanOutside m i x (length vs)) (spanShort m i x (length vs)) (settled m h) in
               let accepts : writeAt m i x vs ≡ writeIf m i x vs false false = rw (s .0, s .1) in

@@ -18,7 +18,7 @@ use Rattle.machine.specs.declared.Touched.the-variants as touched-is
 use Rattle.machine.specs.Answers.{touchedSays}
 use Rattle.machine.specs.Laws.Sizes.{fit}
 use Rattle.machine.specs.Laws.Storing.{stored-alike}
-use Rattle.memory.specs.Memory.{Memory, withBytes, at, sizesOf, lengths}
+use Rattle.memory.specs.Memory.{Memory, withBytes, at, sizesOf, lengths, placeIn, placeBy}
 use Rattle.promise.specs.Holds.{Holds}
 use Rattle.promise.specs.Shown.{frameOf}
 use Rattle.promise.specs.Did.{Among, Exactly, Did}
@@ -31,7 +31,7 @@ use Rattle.lookup.specs.Ready.{Lookable}
 use Rattle.lookup.specs.Sights.{frame-is, lookable}
 use Rattle.memory.specs.declared.Head.{Head}
 use Rattle.paging.specs.Fits.{Touchable}
-use Rattle.spans.specs.Parts.{Span, Part, placeIn, placeBy}
+use Rattle.spans.specs.Parts.{Span, Part}
 use Rattle.spans.specs.PartLaws.{one-page}
 use Rattle.surveying.specs.Surveys.{AllResident, Counted, writeRefusal, Settled}
 use Rattle.mapping.specs.Touches.{all-sizes, touched-lengths}

@@ -26,7 +26,7 @@ tables-long w = λ j.
       ram = length (w .ram j);
     }
 
-writes-long : {z : Sizes} {i b c n : ℕ} {k k′ : Memory} → Writes z i b c n k k′ → lengths k′ ≡ lengths k
+writes-long : {z : Sizes} {i b c n : ℕ} {P : ℕ → Type 0} {k k′ : Memory} → Writes z i b c n P k k′ → lengths k′ ≡ lengths k
 writes-long {z} {k = k} {k′ = k′} b =
     let w = b .maps in
     let r : length (k′ .ram) ≡ length (k .ram) = b .fills .stored .few .size ∙ zeroed-all-long z (b .fills .frames) (k .ram) in λ j.

@@ -17,12 +17,11 @@ use Rattle.machine.specs.declared.Touched.the-variants as touched-is
 use Rattle.machine.specs.Answers.{touchedSays}
 use Rattle.machine.specs.Machine.{Sizes, placeOf, pageOfAddress, spanPages, touch, zeroed}
 use Rattle.machine.specs.Laws.Zeroed.{length-zeroed, zeroed-in, zeroed-else}
-use Rattle.memory.specs.Memory.{Memory, withBytes, at, sizesOf}
+use Rattle.memory.specs.Memory.{Memory, withBytes, at, sizesOf, placeIn, placeBy}
 use Rattle.memory.specs.declared.Head.{Head}
 use Rattle.promise.specs.Did.{Did}
 use Rattle.laws.specs.Parts.{same-page}
 use Rattle.laws.specs.Spans.{AllTouched}
-use Rattle.spans.specs.Parts.{placeIn, placeBy}
 use Rattle.paging.specs.Models.{clearedFor, tabledFor}
 use Rattle.clearing.specs.Clears.{zeroedAround}
 use Rattle.clearing.specs.Around.{around-long, around-zero, around-else}

@@ -4,7 +4,7 @@ use mathlib.Core.List.{List, [], _∷_, _++_}
 use Prim.Native.Nat.{ℕ, zero, suc, _+_, _*_, _≤_, _<_}
 use native.Mathlib.Nat.{add-zero, add-suc, suc-add, add-assoc}
 use native.Mathlib.Omega.{arith}
-use lib.ListN.{length-append}
+use lib.ListN.{getD, length-append}
 use Rattle.sequence.specs.Lists.{Each}
 use Rattle.sequence.specs.Changes.{changed-then}
 use Rattle.machine.specs.declared.PageCall.the-variants.{Touch}
@@ -13,7 +13,7 @@ use Rattle.machine.specs.Laws.Stays.{grown-all-touched}
 use Rattle.memory.specs.Memory.{Memory, sizesOf, lengths}
 use Rattle.promise.specs.Holds.{Holds}
 use Rattle.promise.specs.Shown.{Shown}
-use Rattle.promise.specs.Did.{Words, Maps, zeroedAll, Writes, Did}
+use Rattle.promise.specs.Did.{Words, Maps, zeroedAll, FrameOf, Writes, Did}
 use Rattle.promise.specs.Refuses.{words-same}
 use Rattle.laws.specs.Refusals.{Long, writes-none, passed-step}
 use Rattle.laws.specs.Lengths.{lengths-stay}
@@ -42,22 +42,24 @@ each-append P (x ∷ xs) ys a b zero l = a 0 (omega arith)
 each-append P (x ∷ xs) ys a b (suc j) l = each-append P xs ys (λ k h. a (suc k) (omega arith)) b j (omega arith)
 
 -- touches one after another map and clear what each of them does
-pub all-writes : {i b n : ℕ} {k k₁ : Memory} → AllTouched i b k n k₁ → Writes (sizesOf (k .head)) i b n 0 k k₁
-all-writes {k = k} none-touched = writes-none _ _ _ _ _ k
+pub all-writes : {i b n : ℕ} {k k₁ : Memory} → AllTouched i b k n k₁ → Writes (sizesOf (k .head)) i b n 0 (λ p. ⊥) k k₁
+all-writes {k = k} none-touched = writes-none _ _ _ _ _ _ k
 all-writes {i} {b} (one-touched {n} {k₁} {k₂} t d) = add-touch n (all-writes t) (d .bounds)
   where
     only : (j : ℕ) → j < 1 → 0 ≡ j
     only j l = omega arith
 
-    add-touch : {k k₁ k₂ : Memory} (n : ℕ) → Writes (sizesOf (k .head)) i b n 0 k k₁ → Writes (sizesOf (k₁ .head)) i (b + n) 1 0 k₁ k₂
-        → Writes (sizesOf (k .head)) i b (suc n) 0 k k₂
+    add-touch : {k k₁ k₂ : Memory} (n : ℕ) → Writes (sizesOf (k .head)) i b n 0 (λ p. ⊥) k k₁ → Writes (sizesOf (k₁ .head)) i (b + n) 1 0 (λ p. ⊥) k₁ k₂
+        → Writes (sizesOf (k .head)) i b (suc n) 0 (λ p. ⊥) k k₂
     add-touch {k} {k₁} {k₂} n first second =
         let z = sizesOf (k .head) in
         let t = first .maps in
-        let w = subst (λ (z : Sizes). Writes z i (b + n) 1 0 k₁ k₂) (t .sizes) second in
+        let w = subst (λ (z : Sizes). Writes z i (b + n) 1 0 (λ p. ⊥) k₁ k₂) (t .sizes) second in
         let v = w .maps in
         let fs = first .fills .frames in
         let gs = w .fills .frames in
+        let cleared : zeroedAll z (fs ++ gs) (k .ram) ≡ zeroedAll z gs (k₁ .ram) =
+        zeroed-all-append z fs gs (k .ram) ∙ ap (zeroedAll z gs) (sym (words-same refl (first .fills .stored))) in
         record {
           maps =
               record {
@@ -80,14 +82,24 @@ all-writes {i} {b} (one-touched {n} {k₁} {k₂} t d) = add-touch n (all-writes
                 stack = words-then (t .stack) (v .stack);
                 cache = words-then (t .cache) (v .cache);
                 link = words-then (t .link) (v .link);
+                others = λ p d. v .others p (λ j l e. d n (omega arith) (omega arith)) ∙ t .others p (λ j l e. d j (omega arith) e);
               };
           fills =
               record {
                 frames = fs ++ gs;
                 one-each = omega (arith, length-append fs gs, first .fills .one-each, w .fills .one-each);
                 below = each-append (λ f. f < z .frames) fs gs (first .fills .below) (w .fills .below);
-                stored =
-                    rw (zeroed-all-append z fs gs (k .ram), ← words-same refl (first .fills .stored)) (w .fills .stored);
+                own =
+                    each-append (FrameOf z i b (suc n) (k₂ .table)) fs gs
+                    (λ j l.
+                    let (c, low, is) = first .fills .own j l in
+                    (c, omega arith, v .others (placeOf z i (b + c)) (λ d h e. absurd (omega arith)) ∙ is))
+                    (λ j l.
+                    let (c, low, is) = w .fills .own j l in
+                    let same : b + n ≡ b + n + c = omega arith in
+                    (n, omega arith, ap (λ (q : ℕ). getD (k₂ .table) (placeOf z i q) 0) same ∙ is));
+                stored = rw cleared (w .fills .stored);
+                others = λ p d. rw cleared (w .fills .others p d);
               };
         }
 

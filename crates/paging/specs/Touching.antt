@@ -3,23 +3,26 @@ use mathlib.Core.Path.{_≡_, refl, sym, ap, _∙_, subst}
 use mathlib.Core.Bool.{Bool, true, false, true≢false}
 use mathlib.Core.List.{List, [], _∷_}
 use Prim.Native.Nat.{ℕ, _<_}
+use native.Mathlib.Omega.{arith}
+use lib.ListN.{length}
 use Rattle.machine.specs.declared.PageCall.the-variants.{Touch}
-use Rattle.machine.specs.Machine.{Sizes, places, placeOf, State, Lent, wordsAt, Page, unmapped, pageOf, touch, asked, Answer, refusedAfter, Out}
-use Rattle.machine.specs.Machine.{pageFacts, touchNew, touchPage, touchAt, accepted, answer, after}
+use Rattle.machine.specs.Machine.{Sizes, places, placeOf, State, Lent, wordsAt, Page, unmapped, pageOf, touch, asked, Answer, new, refusedAfter}
+use Rattle.machine.specs.Machine.{Out, pageFacts, pageMapped, touchNew, touchPage, touchAt, accepted, answer, after}
 use Rattle.memory.specs.Memory.{Memory, sizesOf, lengths}
 use Rattle.lookup.specs.declared.Sight.{Sight}
 use Rattle.lookup.specs.declared.Sight.the-variants as sight-is
 use Rattle.planning.specs.declared.Plan.{Plan}
 use Rattle.planning.specs.declared.Plan.the-variants as plan-is
 use Rattle.promise.specs.Holds.{Holds}
-use Rattle.promise.specs.Did.{Later, still, Writes, Follows, Did}
+use Rattle.promise.specs.Did.{Later, still, Writes, NewPage, Follows, Did}
 use Rattle.promise.specs.Shown.{Shown}
 use Rattle.lookup.specs.Models.{SeenAt}
-use Rattle.pool.specs.Models.{emptyPool}
+use Rattle.pool.specs.Models.{emptyPool, taken}
 use Rattle.planning.specs.Models.{fitOk, planIf, planFor, planOf}
 use Rattle.planning.specs.Planning.{new-hidden, Sane, plan-sane}
 use Rattle.planning.specs.Fitting.{fits-honest}
-use Rattle.entries.specs.Bounds.{map-writes}
+use Rattle.entries.specs.Models.{mapPage}
+use Rattle.entries.specs.Bounds.{map-writes, map-tells}
 use Rattle.entries.specs.Mapping.{map-holds}
 use Rattle.paging.specs.Models.{planSays, planLeaves, Touches, TouchDone}
 use Rattle.laws.specs.Models.{everyLength}
@@ -41,11 +44,19 @@ module _ (k : Memory) (p : ℕ) where
   plan-still (plan-is.New a c) e = absurd (true≢false (sym e))
   plan-still (plan-is.Refused n c) e = refl
 
-  plan-bounds : (i b : ℕ) (x : Plan) → Sane k p x → ((a c : ℕ) → x ≡ plan-is.New a c → Shown k i b → ⊥)
-      → Writes (sizesOf (k .head)) i b 1 0 k (planLeaves x k p)
-  plan-bounds i b (plan-is.Old f) g hidden = writes-none _ _ _ _ _ k
-  plan-bounds i b (plan-is.New a c) g hidden = map-writes k i b p a (hidden a c refl) g
-  plan-bounds i b (plan-is.Refused n c) g hidden = writes-none _ _ _ _ _ k
+  plan-bounds : (i b : ℕ) → p ≡ placeOf (sizesOf (k .head)) i b → p < length (k .table) → (x : Plan) → Sane k p x
+      → ((a c : ℕ) → x ≡ plan-is.New a c → Shown k i b → ⊥) → Writes (sizesOf (k .head)) i b 1 0 (λ q. ⊥) k (planLeaves x k p)
+  plan-bounds i b is long (plan-is.Old f) g hidden = writes-none _ _ _ _ _ _ k
+  plan-bounds i b is long (plan-is.New a c) g hidden = map-writes k i b p a is long (hidden a c refl) g
+  plan-bounds i b is long (plan-is.Refused n c) g hidden = writes-none _ _ _ _ _ _ k
+
+  plan-tells : (i b : ℕ) → p ≡ placeOf (sizesOf (k .head)) i b → p < length (k .table) → (x : Plan) → Sane k p x → (f w : ℕ) → planSays x k ≡ new f w
+      → NewPage (pageMapped i b) f k (planLeaves x k p)
+  plan-tells i b is long (plan-is.Old g) y f w e = absurd (let z : _≡_ {A = ℕ} 0 1 = cc in omega arith)
+  plan-tells i b is long (plan-is.New a c) y f w e =
+      let told : taken (k .link) (k .head) .frame ≡ f = cc in
+      subst (λ (g : ℕ). NewPage (pageMapped i b) g k (mapPage k a p)) told (map-tells k i b p a is long y)
+  plan-tells i b is long (plan-is.Refused n c) y f w e = absurd (let z : _≡_ {A = ℕ} 0 1 = cc in omega arith)
 
 -- ---- on honest memory: what the machine does
 
@@ -96,11 +107,14 @@ touch-did i b k a k′ d =
     let p = placeOf (sizesOf (k .head)) i b in
     let x = planOf k (r .sight) in
     let g = plan-sane k i b e (r .sight) (r .seen) in
+    let y = admitted (sizesOf (k .head)) Touch i b (lengths k) e in
+    let long : p < length (k .table) = omega (arith, y .place, y .lent .table refl) in
     rw (r .answer-is, r .after-is)
     (record {
       asks = rw e (plan-later k p i b (lengths k) x g);
       stays = plan-still k p x;
-      bounds = plan-bounds k p i b x g (new-hidden k i b (r .sight) (r .seen));
+      bounds = plan-bounds k p i b refl long x g (new-hidden k i b (r .sight) (r .seen));
+      tells = plan-tells k p i b refl long x g;
       honest = λ m h. touch-honest i b k e (r .sight) (r .seen) m h;
       begins = tt;
     }))

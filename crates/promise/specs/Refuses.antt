@@ -2,13 +2,13 @@
 use mathlib.Core.Path.{_≡_, refl, sym, ap, _∙_, subst}
 use mathlib.Core.Bool.{true}
 use mathlib.Core.List.{List, [], _∷_, List·Memᴰ, List·Memᴰ·head, List·Memᴰ·tail}
-use mathlib.Core.Logic.{inl, inr}
+use mathlib.Core.Logic.{_≢_, inl, inr}
 use Prim.Native.Nat.{ℕ, zero, suc, _+_, _*_, _/_, _≤_, _<_}
 use native.Mathlib.Omega.{arith}
-use lib.ListN.{length, drop as dropped}
+use lib.ListN.{length, getD, drop as dropped}
 use Rattle.sequence.specs.Lists.{Each, Changed}
 use Rattle.sequence.specs.Changes.{changed-zero}
-use Rattle.machine.specs.Machine.{Sizes, State, begun, spanPages, Lent, Call, start, mark, touch, look, release, write, facts, asked, answer, after, refusal}
+use Rattle.machine.specs.Machine.{Sizes, placeOf, State, begun, spanPages, Lent, Call, start, mark, touch, look, release, write, facts, asked, answer, after, refusal}
 use Rattle.machine.specs.Machine.{Kind, ended, touched, looked, released, counted, translated, copied, listed, refusalOf, Answer, done, old, new, resident}
 use Rattle.machine.specs.Machine.{absent, pages, frames, at, bytes, regions, refused, refusedAfter, Effect, unchanged, prepared, startPut, pageMapped}
 use Rattle.machine.specs.Machine.{regionEmptied, spanStored, zeroed}
@@ -16,7 +16,7 @@ use Rattle.machine.specs.Laws.Zeroed.{length-zeroed, zeroed-beyond}
 use Rattle.memory.specs.Memory.{Memory, memory, withBytes, sizesOf, lengths}
 use Rattle.promise.specs.Holds.{Holds}
 use Rattle.promise.specs.Shown.{Shown, AllShown}
-use Rattle.promise.specs.Did.{Among, Later, Exactly, still, Words, framesLeft, Maps, zeroedAll, Fills, BoundsBy, Did}
+use Rattle.promise.specs.Did.{Among, Later, Exactly, still, Words, framesLeft, Maps, zeroedAll, FrameOf, PlaceOf, Fills, BoundsBy, Did}
 
 -- the number that document 01's checks for 1 to 3 ask for
 abbrev check : (Lent → Call) → Memory → ℕ
@@ -114,8 +114,9 @@ zeroed-all-long z [] ram = refl
 zeroed-all-long z (f ∷ fs) ram = zeroed-all-long z fs (zeroed z f ram) ∙ length-zeroed z f ram
 
 -- of no pages none
-none-filled : {z : Sizes} {c n : ℕ} {ram ram′ : List ℕ} → (w : Fills z c n ram ram′) → c ≡ 0 → Words n (z .frames * z .page) ram ram′
-none-filled {z} {c} {n} {ram} {ram′} w e = go (w .frames) (w .one-each ∙ e) (w .stored)
+none-filled : {z : Sizes} {c n : ℕ} {F P : ℕ → Type 0} {ram ram′ : List ℕ} → (w : Fills z c n F P ram ram′) → c ≡ 0
+    → Words n (z .frames * z .page) ram ram′
+none-filled {z} {c} {n} {F} {P} {ram} {ram′} w e = go (w .frames) (w .one-each ∙ e) (w .stored)
   where
     go : (fs : List ℕ) → length fs ≡ 0 → Words n (z .frames * z .page) (zeroedAll z fs ram) ram′ → Words n (z .frames * z .page) ram ram′
     go [] l s = s
@@ -128,9 +129,9 @@ zeroed-all-beyond z [] ram below = refl
 zeroed-all-beyond z (f ∷ fs) ram below =
     zeroed-all-beyond z fs (zeroed z f ram) (λ j l. below (suc j) (omega arith)) ∙ zeroed-beyond z f ram (below 0 (omega arith))
 
-pub fills-beyond : {z : Sizes} {c n : ℕ} {ram ram′ : List ℕ} → Fills z c n ram ram′
+pub fills-beyond : {z : Sizes} {c n : ℕ} {F P : ℕ → Type 0} {ram ram′ : List ℕ} → Fills z c n F P ram ram′
     → dropped (z .frames * z .page) ram′ ≡ dropped (z .frames * z .page) ram
-fills-beyond {z} {c} {n} {ram} w = w .stored .excess ∙ zeroed-all-beyond z (w .frames) ram (w .below)
+fills-beyond {z} {c} {n} {F} {P} {ram} w = w .stored .excess ∙ zeroed-all-beyond z (w .frames) ram (w .below)
 
 -- where no page is mapped only the RAM changes
 only-ram : (z : Sizes) (i b n : ℕ) (k k′ : Memory) (w : Maps z i b n k k′) → w .mapped ≡ 0 → k′ ≡ withBytes k (k′ .ram)
@@ -207,13 +208,23 @@ module _ (i b : ℕ) (k : Memory) (a : Answer) (k′ : Memory) where
   pub touch-takes-one : Did (touch i b) k a k′ → (n : ℕ) × (n ≤ 1) × (framesLeft (k .head) ≡ framesLeft (k′ .head) + n)
   touch-takes-one d = let w = d .bounds .maps in (w .mapped, w .few, w .taken)
 
-  -- it clears the frame that it takes, and no other byte changes
+  -- the page table changes at the page's own place only
+  pub touch-table : Did (touch i b) k a k′ → (p : ℕ) → p ≢ placeOf (sizesOf (k .head)) i b → getD (k′ .table) p 0 ≡ getD (k .table) p 0
+  touch-table d p other = d .bounds .maps .others p (λ j l e. other (omega arith))
+
+  -- it clears the frame that it takes, which the page table then has for the page, and no other byte changes
   pub touch-clears : Did (touch i b) k a k′ → (fs : List ℕ) × (length fs ≤ 1) × (framesLeft (k .head) ≡ framesLeft (k′ .head) + length fs)
-      × (k′ .ram ≡ zeroedAll (sizesOf (k .head)) fs (k .ram))
+      × Each 0 (FrameOf (sizesOf (k .head)) i b 1 (k′ .table)) fs × (k′ .ram ≡ zeroedAll (sizesOf (k .head)) fs (k .ram))
   touch-clears d =
       let w = d .bounds in
       let e = w .fills .one-each in
-      (w .fills .frames, omega (arith, w .maps .few), omega (arith, w .maps .taken), words-same refl (w .fills .stored))
+      (w .fills .frames, omega (arith, w .maps .few), omega (arith, w .maps .taken), w .fills .own, words-same refl (w .fills .stored))
+
+  -- a page that is told to be new has the frame that is told, cleared
+  pub touch-new : (f w : ℕ) → Did (touch i b) k (new f w) k′
+      → (framesLeft (k .head) ≡ framesLeft (k′ .head) + 1) × (getD (k′ .table) (placeOf (sizesOf (k .head)) i b) 0 ≡ f)
+      × (k′ .ram ≡ zeroed (sizesOf (k .head)) f (k .ram))
+  touch-new f w d = d .tells f w refl
 
   pub touch-shown : Shown k i b → Did (touch i b) k a k′ → k′ ≡ k
   touch-shown s d =
@@ -222,16 +233,19 @@ module _ (i b : ℕ) (k : Memory) (a : Answer) (k′ : Memory) where
       only-ram _ i b 1 k k′ w e ∙ ap (withBytes k) (words-same refl (none-filled (d .bounds .fills) e))
 
 module _ (i x : ℕ) (k : Memory) (a : Answer) (k′ : Memory) where
-  -- a write clears a frame for each that it takes, stores no more than its bytes, none past the frames
+  -- a write clears a frame for each that it takes, stores no more than its bytes, none past the frames; each frame and each place is the span's by the
+  -- page table that it leaves
   pub write-few : (vs : List ℕ) → Did (write i x vs) k a k′
       → (fs : List ℕ) × (framesLeft (k .head) ≡ framesLeft (k′ .head) + length fs)
       × Changed (length vs) (zeroedAll (sizesOf (k .head)) fs (k .ram)) (k′ .ram) × (beyond k (k′ .ram) ≡ beyond k (k .ram))
+      × Each 0 (FrameOf (sizesOf (k .head)) i (x / sizesOf (k .head) .page) (spanPages (sizesOf (k .head)) x (length vs)) (k′ .table)) fs
+      × ((p : ℕ) → (PlaceOf (k′ .head) i x (length vs) (k′ .table) p → ⊥) → getD (k′ .ram) p 0 ≡ getD (zeroedAll (sizesOf (k .head)) fs (k .ram)) p 0)
   write-few vs d =
       let w = d .bounds in
-      (w .fills .frames, omega (arith, w .maps .taken, w .fills .one-each), w .fills .stored .few, fills-beyond (w .fills))
+      let f = w .fills in
+      (f .frames, omega (arith, w .maps .taken, f .one-each), f .stored .few, fills-beyond f, f .own, f .others)
 
-  -- and where the tables show every page of the span it changes the RAM alone, of that its bytes
-
+  -- where the tables show every page of the span it changes the RAM alone, of that its bytes
   pub write-shown : (vs : List ℕ) → AllShown k i (x / sizesOf (k .head) .page) (spanPages (sizesOf (k .head)) x (length vs)) → Did (write i x vs) k a k′
       → (k′ ≡ withBytes k (k′ .ram)) × Changed (length vs) (k .ram) (k′ .ram)
   write-shown vs s d = let w = d .bounds .maps in (only-ram _ i _ _ k k′ w (w .shown s), none-filled (d .bounds .fills) (w .shown s) .few)

@@ -12,14 +12,14 @@ use Rattle.machine.specs.Laws.Holders.{ram-mapped}
 use Rattle.machine.specs.Answers.{lookedSays}
 use Rattle.machine.specs.declared.Looked.{Looked}
 use Rattle.machine.specs.declared.Looked.the-variants.{Resident}
-use Rattle.memory.specs.Memory.{Memory, memory, at, sizesOf, lengths}
+use Rattle.memory.specs.Memory.{Memory, memory, at, sizesOf, lengths, placeIn}
 use Rattle.memory.specs.declared.Head.{Head}
 use Rattle.promise.specs.Holds.{Holds}
 use Rattle.promise.specs.Did.{Later, Did}
 use Rattle.laws.specs.Found.{Found, looked-later, address-found, residence}
 use Rattle.laws.specs.Parts.{OnResident, CopiedOut, part-bytes}
 use Rattle.lookup.specs.Lookup.{table-place}
-use Rattle.spans.specs.Parts.{Part, placeIn}
+use Rattle.spans.specs.Parts.{Part}
 use Rattle.spans.specs.PartLaws.{part-ends}
 
 -- these are the n bytes from address x of space i on, on every memory with this head, page table and RAM

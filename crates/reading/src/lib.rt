@@ -19,9 +19,9 @@ ghost use mathlib.Core.List.{List};
 ghost use Prim.Native.Nat.{ℕ, _<_, _≤_};
 ghost use lib.ListN.{length, take, drop};
 ghost use Rattle.machine.specs.Machine.{places};
-ghost use Rattle.memory.specs.Memory.{memory, sizesOf};
+ghost use Rattle.memory.specs.Memory.{memory, sizesOf, placeIn};
 ghost use Rattle.promise.specs.Filled.{ReadDid};
-ghost use Rattle.spans.specs.Parts.{Span, Part, placeIn};
+ghost use Rattle.spans.specs.Parts.{Span, Part};
 ghost use Rattle.reading.specs.Copies.{CopiedBy};
 
 // The bytes from address x on, all of one page, out of the page's frame.

@@ -1,13 +1,11 @@
 -- What the functions that copy a span's bytes may take for granted once the checks for refusals 1 to 3 have passed.
 use mathlib.Core.Path.{_≡_}
-use mathlib.Core.Bool.{true, cond}
-use mathlib.Core.Option.{Option, none, some}
+use mathlib.Core.Bool.{true}
 use mathlib.Core.List.{List}
 use Prim.Native.Nat.{ℕ, _+_, _*_, _%_, _≤_, _<_}
-use lib.Dec.{ltb}
 use lib.ListN.{length}
-use Rattle.machine.specs.Machine.{sizesOk, spaceBytes, pageOfAddress}
-use Rattle.memory.specs.Memory.{at, sizesOf}
+use Rattle.machine.specs.Machine.{sizesOk, spaceBytes}
+use Rattle.memory.specs.Memory.{sizesOf, placeIn}
 use Rattle.memory.specs.declared.Head.{Head}
 
 -- n bytes from address x of space i on, and RAM that is long enough
@@ -22,14 +20,6 @@ pub record Part (h : Head) (i x n : ℕ) (ram : List ℕ) : Type 0 where
   pub span : Span h i x n ram
   pub some-bytes : 0 < n
   pub fits : x % sizesOf h .page + n ≤ sizesOf h .page
-
--- where address x is in frame f
-abbrev pub placeIn : Head → ℕ → ℕ → ℕ
-placeIn h f x = f * sizesOf h .page + x % sizesOf h .page
-
--- where address x of space i is by the page table's word, if that is a frame
-abbrev pub placeBy : Head → ℕ → List ℕ → ℕ → Option ℕ
-placeBy h i table x = let f = at table (pageOfAddress (sizesOf h) i x) in cond (ltb f (h .frames)) (some (placeIn h f x)) none
 
 -- place q of the RAM is that of address x in one of the frames
 pub record RamPlace (h : Head) (x q : ℕ) : Type 0 where

@@ -9,8 +9,7 @@ ghost use Prim.Native.Nat.{_+_, _-_, _*_, _/_, _%_, _<_, _≤_, min};
 ghost use lib.ListN.{length};
 ghost use Rattle.machine.specs.Machine.{sizesOk, spaceBytes, places, pageOfAddress, spanPages};
 ghost use Rattle.machine.specs.Claims.{Address};
-ghost use Rattle.memory.specs.Memory.{at, sizesOf};
-ghost use Rattle.spans.specs.Parts.{placeIn};
+ghost use Rattle.memory.specs.Memory.{at, sizesOf, placeIn};
 ghost use Rattle.spans.specs.Spans.{absenceOf};
 
 // The refusal of a page that was looked up and isn't resident; 0 for one that is.

@@ -8,9 +8,10 @@ use lib.ListN.{length, take, drop, drop-of-length-le, take-append-drop}
 use lib.Seq.{drop-drop}
 use Rattle.machine.specs.Machine.{storedAt}
 use Rattle.machine.specs.Laws.Storing.{length-stored}
+use Rattle.memory.specs.Memory.{placeBy}
 use Rattle.memory.specs.declared.Head.{Head}
 use Rattle.storing.specs.Storing.{stored-append}
-use Rattle.spans.specs.Parts.{Span, placeBy}
+use Rattle.spans.specs.Parts.{Span}
 use Rattle.spans.specs.PartLaws.{next-long}
 
 module _ (h : Head) (i x : ℕ) (bytes table ram₁ : List ℕ) where

@@ -12,13 +12,13 @@ use lib.ListN.{length}
 use lib.Seq.{sets}
 use Rattle.machine.specs.Machine.{Sizes, placeOf, pageOfAddress, State, ramAt, storedAt, stored}
 use Rattle.machine.specs.Laws.Stays.{IsMapped}
-use Rattle.memory.specs.Memory.{Memory, at, sizesOf}
+use Rattle.memory.specs.Memory.{Memory, at, sizesOf, placeIn, placeBy}
 use Rattle.memory.specs.declared.Head.{Head}
 use Rattle.promise.specs.Holds.{Holds}
 use Rattle.promise.specs.Did.{Words}
 use Rattle.laws.specs.Parts.{same-page}
 use Rattle.lookup.specs.Lookup.{table-place}
-use Rattle.spans.specs.Parts.{Span, Part, placeIn, placeBy}
+use Rattle.spans.specs.Parts.{Span, Part}
 use Rattle.spans.specs.Shifted.{some-page}
 use Rattle.storing.specs.Storing.{stored-run, stored-nowhere, stored-same, stored-words}
 

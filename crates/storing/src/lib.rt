@@ -9,8 +9,8 @@ ghost use Prim.Native.Nat.{ℕ, _<_, _≤_};
 ghost use lib.ListN.{length};
 ghost use lib.Seq.{sets};
 ghost use Rattle.machine.specs.Machine.{places, storedAt};
-ghost use Rattle.memory.specs.Memory.{sizesOf};
-ghost use Rattle.spans.specs.Parts.{Span, Part, placeIn, placeBy};
+ghost use Rattle.memory.specs.Memory.{sizesOf, placeIn, placeBy};
+ghost use Rattle.spans.specs.Parts.{Span, Part};
 
 // Stores src, all of one page, from address x on in the page's frame.
 pub fn store_frame(head: Head, frame: u32, x: usize, src: &[u8], ram: &mut [u8])
