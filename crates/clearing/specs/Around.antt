@@ -1,15 +1,13 @@
 -- A frame cleared around a part: which bytes are 0, and which stay.
-use mathlib.Core.Path.{_≡_, ap, sym, _∙_}
-use mathlib.Core.Logic.{_≢_, _⊎_, inl, inr}
+use mathlib.Core.Path.{_≡_, _∙_}
+use mathlib.Core.Logic.{_≢_, _⊎_, inl, inr, ⊎-elim}
 use mathlib.Core.List.{List}
 use Prim.Native.Nat.{ℕ, suc, _+_, _-_, _*_, _/_, _%_, _≤_, _<_}
-use native.Mathlib.Nat.{mod-lt, div-add-mod', mul-le-mul-right}
-use native.Mathlib.Decide.{decLt}
 use native.Mathlib.Omega.{arith}
 use lib.ListN.{length, getD, replicate, length-replicate}
 use lib.Seq.{sets, length-sets}
 use Rattle.machine.specs.Machine.{Sizes}
-use Rattle.machine.specs.Laws.Zeroed.{sets-out, sets-zero}
+use Rattle.machine.specs.Laws.Zeroed.{sets-out, sets-zero, frame-apart}
 use Rattle.clearing.specs.Clears.{zeroedAround}
 
 module _ (z : Sizes) (f x n : ℕ) (ram : List ℕ) (fits : x % z .page + n ≤ z .page) where
@@ -32,19 +30,14 @@ module _ (z : Sizes) (f x n : ℕ) (ram : List ℕ) (fits : x % z .page + n ≤ 
 
   -- of other frames
   pub around-else : (p : ℕ) → 0 < z .page → p / z .page ≢ f → getD (zeroedAround z f x n ram) p 0 ≡ getD ram p 0
-  around-else p pos d = go (decLt (p / z .page) f)
+  around-else p pos d = ⊎-elim before past (frame-apart (z .page) p f pos d)
     where
-      place : p / z .page * z .page + p % z .page ≡ p
-      place = div-add-mod' p (z .page)
-
-      out : (p < f * z .page) ⊎ (suc f * z .page ≤ p) → getD (zeroedAround z f x n ram) p 0 ≡ getD ram p 0
-      out (inl l) =
+      before : p < f * z .page → getD (zeroedAround z f x n ram) p 0 ≡ getD ram p 0
+      before l =
           sets-out (replicate (z .page - (o + n)) 0) front (f * z .page + o + n) p (inl (omega arith))
           ∙ sets-out (replicate o 0) ram (f * z .page) p (inl l)
-      out (inr l) =
+
+      past : suc f * z .page ≤ p → getD (zeroedAround z f x n ram) p 0 ≡ getD ram p 0
+      past l =
           sets-out (replicate (z .page - (o + n)) 0) front (f * z .page + o + n) p (inr (omega (arith, length-replicate {A = ℕ} (z .page - (o + n)) 0)))
           ∙ sets-out (replicate o 0) ram (f * z .page) p (inr (omega (arith, length-replicate {A = ℕ} o 0)))
-
-      go : Dec (p / z .page < f) → getD (zeroedAround z f x n ram) p 0 ≡ getD ram p 0
-      go (yes l) = out (inl (omega (arith, place, mod-lt p pos, mul-le-mul-right (z .page) l)))
-      go (no l) = let up : suc f ≤ p / z .page = omega arith in out (inr (omega (arith, place, mul-le-mul-right (z .page) up)))

@@ -4,13 +4,13 @@ use memory::Head;
 use spans::page_bytes;
 use spans::ram_place;
 ghost use mathlib.Core.Path.{_≡_};
-ghost use mathlib.Core.Bool.{true};
-ghost use Prim.Native.Nat.{_+_, _-_, _*_, _%_, _≤_, _<_};
+ghost use Prim.Native.Nat.{_+_, _-_, _%_, _≤_, _<_};
 ghost use lib.ListN.{length, replicate};
 ghost use lib.Seq.{sets};
 ghost use Rattle.machine.specs.Machine.{zeroed};
 ghost use Rattle.memory.specs.Memory.{sizesOf};
-ghost use Rattle.clearing.specs.Clears.{Frame, zeroedAround};
+ghost use Rattle.spans.specs.Parts.{Frame};
+ghost use Rattle.clearing.specs.Clears.{zeroedAround};
 
 // Sets every byte to 0.
 fn fill(part: &mut [u8])

@@ -6,7 +6,7 @@ use native.Mathlib.Nat.{add-zero}
 use native.Mathlib.Omega.{arith}
 use lib.ListN.{length, getD, set}
 use lib.Seq.{drop-set-lt, getD-set-same, getD-set-other}
-use Rattle.sequence.specs.Lists.{Each}
+use Rattle.sequence.specs.Lists.{each-one}
 use Rattle.sequence.specs.Changes.{changed-set}
 use Rattle.machine.specs.Machine.{placeOf, pageMapped}
 use Rattle.memory.specs.Memory.{Memory, sizesOf}
@@ -76,17 +76,13 @@ map-writes k i b p a is long hidden g =
           record {
             frames = taken (k .link) (k .head) .frame ∷ [];
             one-each = refl;
-            below = each-one (λ f. f < k .head .frames) (g .frame);
-            own = each-one (FrameOf (sizesOf (k .head)) i b 1 (mapPage k a p .table)) (0, omega arith, here);
+            below = each-one 0 (λ f. f < k .head .frames) _ (g .frame);
+            own = each-one 0 (FrameOf (sizesOf (k .head)) i b 1 (mapPage k a p .table)) _ (0, omega arith, here);
             stored = words-none 0 _ _;
             others = λ q d. refl;
           };
     }
   where
-    each-one : (P : ℕ → Type 0) {f : ℕ} → P f → Each 0 P (f ∷ [])
-    each-one P l zero h = l
-    each-one P l (suc j) h = absurd (omega arith)
-
     here : getD (mapPage k a p .table) (placeOf (sizesOf (k .head)) i (b + 0)) 0 ≡ taken (k .link) (k .head) .frame
     here =
         ap (λ (q : ℕ). getD (mapPage k a p .table) q 0) (ap (placeOf (sizesOf (k .head)) i) (add-zero b) ∙ sym is)

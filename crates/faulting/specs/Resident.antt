@@ -8,10 +8,7 @@ use Rattle.machine.specs.Machine.{placeOf, State, anyOutside, countAbsent}
 use Rattle.memory.specs.Memory.{Memory}
 use Rattle.promise.specs.Holds.{Holds}
 use Rattle.laws.specs.Spans.{AllTouched, none-touched, one-touched}
-use Rattle.lookup.specs.declared.Sight.the-variants.{Mapped}
-use Rattle.lookup.specs.Lookup.{seen-honest}
-use Rattle.promise.specs.Shown.{frameOf}
-use Rattle.lookup.specs.Sights.{frame-seen}
+use Rattle.lookup.specs.Sights.{shown-mapped}
 use Rattle.paging.specs.Fits.{Touchable, RamLong}
 use Rattle.paging.specs.Touches.{did-resident}
 use Rattle.surveying.specs.Surveys.{AllResident}
@@ -23,9 +20,7 @@ module _ (k : Memory) (i : ℕ) where
   unfolding anyOutside countAbsent
   resident-there m H s zero first l all = (refl, refl)
   resident-there m H s (suc n) first l all =
-      let f = frameOf (k .head) i first (k .count) (k .table) (k .helper) (k .stack) (k .cache) in
-      let here = seen-honest m k H i first s (omega arith) (Mapped f)
-      (frame-seen (k .head) i first (k .index) (k .count) (k .table) (k .helper) (k .stack) (k .cache) refl (all first (omega arith) (omega arith))) in
+      let here = shown-mapped m k H i first s (omega arith) (all first (omega arith) (omega arith)) in
       let rest = rw (add-suc (i * m .sizes .pages) first) at
       (resident-there m H s n (suc first) (omega arith) (λ b a c. all b (omega arith) (omega arith))) in
       (rw (here .1) (rest .0), rw (here .1, zero-add) (rest .1))

@@ -16,12 +16,12 @@ use Rattle.machine.specs.Machine.{Sizes, sizesOk, spaceBytes, State, Page, outs
 use Rattle.machine.specs.Machine.{write, asked, old, new, refused, refusedAfter, done, tell, touchNew, touchPage, isOutside, anyOutside, isUnmapped}
 use Rattle.machine.specs.Machine.{countAbsent, storedAt, stored, storeAll, spanTouched, spanOutside, spanShort, writeIf, writeAt, accepted, after}
 use Rattle.machine.specs.Laws.Sizes.{both, Fit, fit, some-bytes, passed, page-below}
-use Rattle.machine.specs.Laws.Shows.{in-pages}
-use Rattle.machine.specs.Laws.Stays.{IsMapped, grown-all-touched, span-mapped}
+use Rattle.machine.specs.Laws.Shows.{address-mapped}
+use Rattle.machine.specs.Claims.{PlaceOf}
 use Rattle.machine.specs.Laws.Storing.{stored-other}
 use Rattle.memory.specs.Memory.{Memory, withBytes, sizesOf, lengths, placeBy}
 use Rattle.promise.specs.Holds.{Holds}
-use Rattle.promise.specs.Did.{Among, Words, PlaceOf, Writes, Did}
+use Rattle.promise.specs.Did.{Among, Words, Writes, Did}
 use Rattle.promise.specs.Refuses.{words-same}
 use Rattle.laws.specs.Bytes.{bytes-hold}
 use Rattle.laws.specs.Spans.{AllTouched}
@@ -142,20 +142,17 @@ module _ (i x : ℕ) (vs : List ℕ) (k : Memory) (passes : asked (sizesOf (k .h
         let f = fit z (a .sizes-ok) in
         let h₁ = all-touched-holds m h (every-long _ z (lengths k) (a .lent)) (a .space) (span-pages-inside z f x n (a .fits))
         (subst (λ y. AllTouched i (x / y .page) k (spanPages y x n) k₁) (h .sizes-are) touched) in
-        let g = grown-all-touched m p q (h .sound) .sizes-same in
         let s = none-refused (spanOutside m i x (length vs)) (spanShort m i x (length vs)) (settled m h) in
         let mapped : SpanMapped m₁ i x n =
         λ j l.
-        let b = in-pages z i x n (x + j) (some-bytes z f) (omega arith) (omega arith) in
-        subst (IsMapped m₁) (b .2 ∙ ap (λ y. pageOfAddress y i (x + j)) (sym g))
-        (span-mapped m p q (h .sound) (s .0) (ltb-false (length (m .pool)) (countAbsent m p q) (s .1)) (b .0) (b .1)) in
+        address-mapped m (h .sound) i x n (x + j) (s .0) (ltb-false (length (m .pool)) (countAbsent m p q) (s .1)) (omega arith) (omega arith) in
         let is : stored m₁ i x vs (m₁ .ram) ≡ ram =
         ap (stored m₁ i x vs) (sym (h₁ .ram-is)) ∙ sym (span-stored m₁ k₁ h₁ i x vs (k₁ .ram) mapped) ∙ sym stores in
         rw is (bytes-hold m₁ k₁ ram h₁)
 
     -- the touches' words and clearing, and the bytes of the span
     bounds : Writes (sizesOf (k .head)) i (x / sizesOf (k .head) .page) (spanPages (sizesOf (k .head)) x (length vs)) (length vs)
-        (PlaceOf (k₁ .head) i x (length vs) (k₁ .table)) k (withBytes k₁ ram)
+        (PlaceOf (placeBy (k₁ .head) i (k₁ .table)) x (length vs)) k (withBytes k₁ ram)
     bounds =
         let z = sizesOf (k .head) in
         let w = all-writes touched in

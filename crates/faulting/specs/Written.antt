@@ -34,8 +34,7 @@ use Rattle.paging.specs.Fits.{Touchable}
 use Rattle.spans.specs.Parts.{Span, Part}
 use Rattle.spans.specs.PartLaws.{one-page}
 use Rattle.surveying.specs.Surveys.{AllResident, Counted, writeRefusal, Settled}
-use Rattle.mapping.specs.Touches.{all-sizes, touched-lengths}
-use Rattle.mapping.specs.Spans.{SpanTouched, OneTouched}
+use Rattle.mapping.specs.Spans.{SpanTouched, span-sizes, span-lengths, span-ram, OneTouched}
 use Rattle.storing.specs.Stores.{frame-stored}
 use Rattle.faulting.specs.Writing.{SpanAdmitted, write-admitted, span-pages-inside, spanRefusal, refusedWith, touch-settles, write-refused}
 use Rattle.faulting.specs.Writing.{write-done}
@@ -83,6 +82,10 @@ module _ {k : Memory} {i x : ℕ} {vs : List ℕ} {first pages : ℕ} (s : Spann
   pub span-touchable : (b : ℕ) → b < k .head .pages → Touchable (k .head) i b (k .index) (k .count) (k .table) (k .helper) (k .stack) (k .cache) (k .link)
   span-touchable b l = record { ready = span-lookable b l; link-long = admitted .lent .link refl }
 
+  -- what the stores ask
+  pub span-there : Span (k .head) i x (length vs) (k .ram)
+  span-there = record { sizes-ok = admitted .sizes-ok; space = admitted .space; ends = admitted .fits; ram-long = admitted .lent .ram refl }
+
   -- what the machine says of the span's pages
   refusal-is : (m : State) → Holds m k
       → let p = placeOf (m .sizes) i first in
@@ -125,9 +128,7 @@ module _ {k : Memory} {i x : ℕ} {vs : List ℕ} {first pages : ℕ} (s : Spann
   module _ (one : pages ≡ 1) where
     pub one-part : Part (k .head) i x (length vs) (k .ram)
     one-part =
-        one-page (k .head) i x (length vs) (k .ram)
-        (record { sizes-ok = admitted .sizes-ok; space = admitted .space; ends = admitted .fits; ram-long = admitted .lent .ram refl })
-        (sym (s .pages-is) ∙ one)
+        one-page (k .head) i x (length vs) (k .ram) span-there (sym (s .pages-is) ∙ one)
 
     module _ (f : ℕ) (is : f ≡ frameOf (k .head) i first (k .count) (k .table) (k .helper) (k .stack) (k .cache)) (below : f < k .head .frames) where
       pub one-resident : AllResident (k .head) i first (first + pages) (k .count) (k .table) (k .helper) (k .stack) (k .cache)
@@ -165,10 +166,6 @@ module _ {k : Memory} {i x : ℕ} {vs : List ℕ} {first pages : ℕ} (s : Spann
 
   -- ---- once every page is touched
 
-  -- what the stores ask
-  pub span-there : Span (k .head) i x (length vs) (k .ram)
-  span-there = record { sizes-ok = admitted .sizes-ok; space = admitted .space; ends = admitted .fits; ram-long = admitted .lent .ram refl }
-
   pub table-there : places (sizesOf (k .head)) ≤ length (k .table)
   table-there = admitted .lent .table refl
 
@@ -178,26 +175,18 @@ module _ {k : Memory} {i x : ℕ} {vs : List ℕ} {first pages : ℕ} (s : Spann
   written d is-none {k₁} touched {ram} stores = write-done i x vs k (s .passes) k₁ ram touched (λ m H. sym is-none ∙ d .is m H) stores
 
   module _ {k₁ : Memory} (t : SpanTouched i x (length vs) k k₁) where
-    same-sizes : sizesOf (k₁ .head) ≡ sizesOf (k .head)
-    same-sizes = all-sizes (t .touched)
-
-    same-lengths : lengths (withBytes k₁ (t .zeros)) ≡ lengths k
-    same-lengths = touched-lengths (t .touched)
-
     pub next-span : Span (k₁ .head) i x (length vs) (k₁ .ram)
     next-span =
-        let back = sym same-sizes in
+        let back = sym (span-sizes t) in
         record {
           sizes-ok = subst (λ (y : Sizes). sizesOk y ≡ true) back (admitted .sizes-ok);
           space = subst (λ (y : Sizes). i < y .spaces) back (admitted .space);
           ends = subst (λ (y : Sizes). x + length vs ≤ spaceBytes y) back (admitted .fits);
-          ram-long =
-              let room = admitted .lent .ram refl in
-              omega (arith, room, t .alike .long, ap (λ (l : Lent). l .ram) same-lengths, ap (λ (y : Sizes). y .frames * y .page) same-sizes);
+          ram-long = omega (arith, admitted .lent .ram refl, span-ram t, ap (λ (y : Sizes). y .frames * y .page) (span-sizes t));
         }
 
     pub next-table : places (sizesOf (k₁ .head)) ≤ length (k₁ .table)
-    next-table = omega (arith, table-there, ap places same-sizes, ap (λ (l : Lent). l .table) same-lengths)
+    next-table = omega (arith, table-there, ap places (span-sizes t), ap (λ (l : Lent). l .table) (span-lengths t))
 
     -- the bytes are stored over all that wasn't cleared
     pub written-over : {short : ℕ} → Decided k i x vs short → short ≡ 0 → {ram : List ℕ} → ram ≡ storedAt (placeBy (k₁ .head) i (k₁ .table)) x vs (k₁ .ram)
@@ -206,7 +195,7 @@ module _ {k : Memory} {i x : ℕ} {vs : List ℕ} {first pages : ℕ} (s : Spann
         written d is-none (t .touched)
         (stores
         ∙ stored-alike (placeBy (k₁ .head) i (k₁ .table)) x vs (t .zeros) (k₁ .ram) (t .alike .long)
-        (λ p free. t .alike .same p (λ j l e. free j l (place-by-sizes (k₁ .head) (k .head) same-sizes i (k₁ .table) (x + j) ∙ e))))
+        (λ p free. t .alike .same p (λ j l e. free j l (place-by-sizes (k₁ .head) (k .head) (span-sizes t) i (k₁ .table) (x + j) ∙ e))))
 
   -- ---- a span of one page, settled by its touch
 

@@ -1,18 +1,17 @@
 -- The processor's count of leading zeros: 63 less the count is the place of the highest bit set.
 use mathlib.Core.Path.{_≡_, sym, ap, _∙_}
-use mathlib.Core.Bool.{true, false}
+use mathlib.Core.Bool.{true}
 use mathlib.Core.Option.{none, some}
 use Prim.Native.Nat.{ℕ, suc, _-_, _*_, _/_, _%_, _^_, _≤_, _<_}
-use native.Mathlib.Nat.{div-eq-of-lt-le, lt-of-lt-of-le, mod-eq-of-lt, mod-lt, one-mul}
+use native.Mathlib.Nat.{div-eq-of-lt-le, lt-of-lt-of-le, mod-eq-of-lt, mod-lt}
 use native.Mathlib.Omega.{arith}
 use lib.Bits.{bitAnd, and-mask}
 use lib.Count.{leadingZeros, leading-top}
-use lib.Dec.{lit<}
-use lib.Pow.{pow-lt, pow-mono, pow-pos}
+use lib.Pow.{pow-mono, pow-pos}
 use Rattle.places.specs.Places.{lastBelow}
-use Rattle.places.specs.Laws.{below-ext, below-is, below-no, below-skip}
+use Rattle.places.specs.Laws.{one-shifted, below-ext, below-is, below-no, below-skip}
 use Rattle.layer.specs.Words.{bit}
-use Rattle.layer.specs.Packed.{bit-high, bit-pack, pack-bits}
+use Rattle.layer.specs.Packed.{bit-high, bit-zero, bit-pack, pack-bits}
 
 top-set : (w j : ℕ) → 2 ^ j ≤ w → w < 2 ^ suc j → bit w j ≡ true
 unfolding bit
@@ -28,7 +27,7 @@ highest-bit w pos fits =
     rw e (below-is (bit w) 64 j (record { low = omega arith; member = top-set w j (t .2) (t .3); clear = λ i x _. bit-high w (suc j) i (t .3) x }))
 
 -- a word but 0 has at most 63 leading zeros
-pub count-low : (w : ℕ) → 0 < w → w < 2 ^ 64 → leadingZeros 64 w ≤ 63
+count-low : (w : ℕ) → 0 < w → w < 2 ^ 64 → leadingZeros 64 w ≤ 63
 count-low w pos fits =
     let t = leading-top 64 w pos fits in
     let made = t .1 in
@@ -41,7 +40,7 @@ whole-word w n l e = rw e (sym (mod-eq-of-lt l))
 
 module _ (n : ℕ) (h : n ≤ 64) (d : n ≡ 64 → ⊥) where
   shifted : 1 * 2 ^ n % 2 ^ 64 ≡ 2 ^ n
-  shifted = let l : n < 64 = omega arith in rw (one-mul, mod-eq-of-lt (pow-lt {j = 64} l))
+  shifted = one-shifted n (omega arith)
 
   pub shifted-some : 1 ≤ 1 * 2 ^ n % 2 ^ 64
   shifted-some = rw shifted (pow-pos n)
@@ -59,7 +58,7 @@ module _ (w n low : ℕ) (is : low ≡ w % 2 ^ n) where
   low-lt = rw is (mod-lt w (pow-pos n))
 
   pub none-below : low ≡ 0 → none ≡ lastBelow (bit w) n
-  none-below e = sym (below-no (bit w) n (λ j l. bit-low j l ∙ ap (λ (x : ℕ). bit x j) e ∙ bit-high 0 0 j (lit< tt) (omega arith)))
+  none-below e = sym (below-no (bit w) n (λ j l. bit-low j l ∙ ap (λ (x : ℕ). bit x j) e ∙ bit-zero j))
 
   module _ (h : n ≤ 64) (d : low ≡ 0 → ⊥) where
     word-lt : low < 2 ^ 64

@@ -12,13 +12,14 @@ use Rattle.extent.specs.Checks.{check, placesOk}
 use Rattle.index.specs.declared.Found as found
 use Rattle.index.specs.declared.Found.the-variants as found-is
 use Rattle.machine.specs.declared.PageCall.the-variants.{Look}
-use Rattle.machine.specs.Machine.{Lent, everyBuffer, Sizes, places, placeOf, sizesOk, Uses, look, asked, Answer, refusedAfter}
+use Rattle.machine.specs.Machine.{Lent, everyBuffer, Sizes, places, placeOf, sizesOk, Uses, State, mapped, pageOf, look, asked, Answer, refusedAfter}
 use Rattle.machine.specs.Laws.Sizes.{fit, some-places, place-below}
 use Rattle.memory.specs.Memory.{Memory, memory, at, sizesOf, lengths}
 use Rattle.memory.specs.declared.Head.{Head}
 use Rattle.lookup.specs.declared.Sight.{Sight}
 use Rattle.lookup.specs.declared.Sight.the-variants.{Mapped, Unmapped, Outside}
-use Rattle.promise.specs.Shown.{residentOk, frameOf}
+use Rattle.promise.specs.Holds.{Holds}
+use Rattle.promise.specs.Shown.{residentOk, frameOf, Shown}
 use Rattle.lookup.specs.Models.{sightMapped, sightFound, Searched, Seen, lookSays}
 use Rattle.laws.specs.Models.{lookLengths, checkOf}
 use Rattle.promise.specs.Did.{Did}
@@ -27,6 +28,7 @@ use Rattle.laws.specs.Passing.{page-passes}
 use Rattle.laws.specs.Checks.{page-check}
 use Rattle.laws.specs.Checking.{checked-no, checked-yes}
 use Rattle.laws.specs.Checking as checking
+use Rattle.lookup.specs.Lookup.{seen-honest}
 use Rattle.lookup.specs.Looking.{look-did}
 use Rattle.lookup.specs.Ready.{Tabled, Ready, Lookable, SeenOf}
 
@@ -108,6 +110,12 @@ frame-seen h i b index count table helper stack cache {r} is l =
         → SeenOf h i b index count table helper stack cache (Mapped r)
     go true e at-p = seen-mapped h i b index count table helper stack cache _ _ _ refl refl refl true (Mapped r) e refl (rw (← at-p, lt-ltb r (h .frames) l))
     go false e at-p = absurd (omega (arith, at-p, l))
+
+-- on honest memory the machine has it there
+pub shown-mapped : (m : State) (k : Memory) → Holds m k → (i b : ℕ) → i < m .sizes .spaces → b < m .sizes .pages → Shown k i b
+    → (a : ℕ) × (pageOf m (placeOf (m .sizes) i b) ≡ mapped a (frameOf (k .head) i b (k .count) (k .table) (k .helper) (k .stack) (k .cache)))
+shown-mapped m k H i b s l shown =
+    seen-honest m k H i b s l (Mapped _) (frame-seen (k .head) i b (k .index) (k .count) (k .table) (k .helper) (k .stack) (k .cache) refl shown)
 
 -- and the page table's word
 pub frame-is : (h : Head) (i b : ℕ) (count table helper stack cache : List ℕ) {r : ℕ} → r ≡ frameOf h i b count table helper stack cache → r < h .frames

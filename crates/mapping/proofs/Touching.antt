@@ -1,54 +1,39 @@
 -- The pages of a span touched, one turn of the loop after another.
-use mathlib.Core.Path.{_≡_, refl, sym, ap, _∙_, subst}
-use mathlib.Core.List.{List}
-use Prim.Native.Nat.{ℕ, suc, _+_, _-_, _*_, _/_, _%_, _≤_, _<_, min}
-use native.Mathlib.Nat.{mod-lt, add-zero}
+use mathlib.Core.Path.{_≡_, refl, sym, _∙_, subst}
+use Prim.Native.Nat.{ℕ, _+_, _-_, _/_, _%_, _≤_, _<_, min}
+use native.Mathlib.Nat.{add-zero}
 use native.Mathlib.Omega.{arith}
 use lib.ListN.{length}
 use Rattle.machine.specs.declared.Touched.{Touched}
 use Rattle.machine.specs.declared.Touched.the-variants as touched-is
 use Rattle.machine.specs.Answers.{touchedSays}
-use Rattle.machine.specs.Machine.{Sizes, placeOf, places, spanPages, Lent, touch}
-use Rattle.memory.specs.Memory.{Memory, withBytes, sizesOf, lengths}
+use Rattle.machine.specs.Machine.{Sizes, placeOf, touch}
+use Rattle.memory.specs.Memory.{Memory, withBytes, sizesOf}
 use Rattle.promise.specs.Did.{Did}
-use Rattle.laws.specs.Spans.{AllTouched, none-touched, one-touched}
+use Rattle.laws.specs.Spans.{none-touched, one-touched}
 use Rattle.spans.specs.Parts.{Part}
 use Rattle.spans.specs.Shifted.{some-page}
-use Rattle.spans.specs.PartLaws.{PagesDone, pages-none, pages-before, one-page-more, pages-more}
+use Rattle.spans.specs.PartLaws.{next-fits, PagesDone, pages-none, pages-before, one-page-more, pages-more}
 use Rattle.paging.specs.Models.{clearedFor, tabledFor}
-use Rattle.mapping.specs.Touches.{all-sizes, touched-lengths}
-use Rattle.mapping.specs.Spans.{aroundFor, AlikeBut, SpanTouched, OneTouched, alike-more}
+use Rattle.mapping.specs.Spans.{aroundFor, SpanTouched, span-sizes, OneTouched, alike-more}
 
 -- the pages of the first `done` bytes
 pub record SoFar (i x n done : ℕ) (k k′ : Memory) : Type 0 where
   pub pages : PagesDone (sizesOf (k .head)) x n done
-  pub zeros : List ℕ
-  pub touched : AllTouched i (x / sizesOf (k .head) .page) k (spanPages (sizesOf (k .head)) x done) (withBytes k′ zeros)
-  pub alike : AlikeBut (k .head) i x done (k′ .table) zeros (k′ .ram)
+  pub span : SpanTouched i x done k k′
 
 pub touched-none : (i x n : ℕ) (k : Memory) → 0 < sizesOf (k .head) .page → SoFar i x n 0 k k
 touched-none i x n k pos =
-    record { pages = pages-none (sizesOf (k .head)) x n pos; zeros = k .ram; touched = none-touched; alike = record { long = refl; same = λ p d. refl } }
+    record {
+      pages = pages-none (sizesOf (k .head)) x n pos;
+      span = record { zeros = k .ram; touched = none-touched; alike = record { long = refl; same = λ p d. refl } };
+    }
 
 module _ {i x n done : ℕ} {k k₁ : Memory} (s : SoFar i x n done k k₁) where
-  -- no touch changes sizes or lengths
-  pub same-sizes : sizesOf (k₁ .head) ≡ sizesOf (k .head)
-  same-sizes = all-sizes (s .touched)
-
-  pub same-lengths : lengths (withBytes k₁ (s .zeros)) ≡ lengths k
-  same-lengths = touched-lengths (s .touched)
-
-  pub ram-length : length (k₁ .ram) ≡ length (k .ram)
-  ram-length = s .alike .long ∙ ap (λ (l : Lent). l .ram) same-lengths
-
   pub touched-all : n ≤ done → SpanTouched i x n k k₁
   touched-all l =
       let same : done ≡ n = omega (arith, s .pages .within) in
-      record {
-        zeros = s .zeros;
-        touched = rw same at (s .touched);
-        alike = rw same at (s .alike);
-      }
+      subst (λ (d : ℕ). SpanTouched i x d k k₁) same (s .span)
 
   module _ (low : done < n) (pos : 0 < sizesOf (k .head) .page) (size : ℕ)
       (is : size ≡ min (sizesOf (k .head) .page - (x + done) % sizesOf (k .head) .page) (n - done)) (b : ℕ)
@@ -57,29 +42,31 @@ module _ {i x n done : ℕ} {k k₁ : Memory} (s : SoFar i x n done k k₁) wher
       abbrev z : Sizes
       z = sizesOf (k .head)
 
-      pub fits : (x + done) % sizesOf (k .head) .page + size ≤ sizesOf (k .head) .page
-      fits = omega (arith, mod-lt (x + done) pos)
-
       pub touched-more : (a : Touched) (k₂ : Memory)
-          → Did (touch i b) (withBytes k₁ (s .zeros)) (touchedSays a) (withBytes k₂ (clearedFor (k₁ .head) a (s .zeros)))
+          → Did (touch i b) (withBytes k₁ (s .span .zeros)) (touchedSays a) (withBytes k₂ (clearedFor (k₁ .head) a (s .span .zeros)))
           → k₂ .table ≡ tabledFor (k₁ .head) i b a (k₁ .table) → k₂ .ram ≡ aroundFor (k .head) a (x + done) size (k₁ .ram)
           → placeOf (sizesOf (k .head)) i b < length (k₁ .table) → ((f w : ℕ) → a ≡ touched-is.New f w → f < k .head .frames)
           → SoFar i x n (done + size) k k₂
       touched-more a k₂ d table-is ram-is inside below =
           let next = s .pages .next-page low in
+          let t = s .span in
           record {
             pages = pages-more z x n pos done size (s .pages) low is;
-            zeros = clearedFor (k₁ .head) a (s .zeros);
-            touched =
-                rw (one-page-more z x n pos done size (s .pages) low is)
-                (one-touched (s .touched)
-                (subst (λ (c : ℕ). Did (touch i c) (withBytes k₁ (s .zeros)) (touchedSays a) (withBytes k₂ (clearedFor (k₁ .head) a (s .zeros))))
-                (page-is ∙ sym next) d));
-            alike =
-                rw (table-is, ram-is)
-                (alike-more (k .head) (k₁ .head) same-sizes i x done size b pos page-is fits (pages-before z x n pos done (s .pages) low)
-                (k₁ .table) (s .zeros)
-                (k₁ .ram) inside a below (s .alike));
+            span =
+                record {
+                  zeros = clearedFor (k₁ .head) a (t .zeros);
+                  touched =
+                      rw (one-page-more z x n pos done size (s .pages) low is)
+                      (one-touched (t .touched)
+                      (subst (λ (c : ℕ). Did (touch i c) (withBytes k₁ (t .zeros)) (touchedSays a) (withBytes k₂ (clearedFor (k₁ .head) a (t .zeros))))
+                      (page-is ∙ sym next) d));
+                  alike =
+                      rw (table-is, ram-is)
+                      (alike-more (k .head) (k₁ .head) (span-sizes t) i x done size b pos page-is (next-fits z x n done size pos low is)
+                      (pages-before z x n pos done (s .pages) low)
+                      (k₁ .table) (t .zeros)
+                      (k₁ .ram) inside a below (t .alike));
+                };
           }
 
 -- a span of one page: the first turn is the last

@@ -1,10 +1,10 @@
 -- The pages of a span mapped, and new frames cleared where the span's bytes don't cover them.
-use mathlib.Core.Path.{_≡_, refl, sym, ap, _∙_, subst}
-use mathlib.Core.Logic.{_≢_, _⊎_, inl, inr}
-use mathlib.Core.Bool.{true, false, cond}
-use mathlib.Core.Option.{Option, none, some}
+use mathlib.Core.Path.{_≡_, refl, sym, ap, _∙_}
+use mathlib.Core.Logic.{_≢_, inl, inr}
+use mathlib.Core.Bool.{cond}
+use mathlib.Core.Option.{none, some}
 use mathlib.Core.List.{List}
-use Prim.Native.Nat.{ℕ, zero, suc, _+_, _-_, _*_, _/_, _%_, _≤_, _<_}
+use Prim.Native.Nat.{ℕ, _+_, _-_, _*_, _/_, _%_, _≤_, _<_}
 use native.Mathlib.Nat.{mod-lt, add-assoc, div-add-mod'}
 use native.Mathlib.Decide.{ℕ-discrete, decLt}
 use native.Mathlib.Omega.{arith}
@@ -15,15 +15,16 @@ use lib.Seq.{getD-set-same, getD-set-other}
 use Rattle.machine.specs.declared.Touched.{Touched}
 use Rattle.machine.specs.declared.Touched.the-variants as touched-is
 use Rattle.machine.specs.Answers.{touchedSays}
-use Rattle.machine.specs.Machine.{Sizes, placeOf, pageOfAddress, spanPages, touch, zeroed}
+use Rattle.machine.specs.Machine.{placeOf, spanPages, Lent, touch, zeroed}
 use Rattle.machine.specs.Laws.Zeroed.{length-zeroed, zeroed-in, zeroed-else}
-use Rattle.memory.specs.Memory.{Memory, withBytes, at, sizesOf, placeIn, placeBy}
+use Rattle.memory.specs.Memory.{Memory, withBytes, at, sizesOf, placeIn, placeBy, lengths}
 use Rattle.memory.specs.declared.Head.{Head}
 use Rattle.promise.specs.Did.{Did}
 use Rattle.laws.specs.Parts.{same-page}
 use Rattle.laws.specs.Spans.{AllTouched}
 use Rattle.paging.specs.Models.{clearedFor, tabledFor}
 use Rattle.clearing.specs.Clears.{zeroedAround}
+use Rattle.mapping.specs.Touches.{all-sizes, touched-lengths}
 use Rattle.clearing.specs.Around.{around-long, around-zero, around-else}
 
 -- the RAM after an answer, of a new page's frame the bytes cleared that lie around n bytes from address x on
@@ -43,6 +44,17 @@ pub record SpanTouched (i x n : ℕ) (k k′ : Memory) : Type 0 where
   pub touched : AllTouched i (x / sizesOf (k .head) .page) k (spanPages (sizesOf (k .head)) x n) (withBytes k′ zeros)
   pub alike : AlikeBut (k .head) i x n (k′ .table) zeros (k′ .ram)
 
+-- no touch changes sizes or lengths
+module _ {i x n : ℕ} {k k₁ : Memory} (t : SpanTouched i x n k k₁) where
+  pub span-sizes : sizesOf (k₁ .head) ≡ sizesOf (k .head)
+  span-sizes = all-sizes (t .touched)
+
+  pub span-lengths : lengths (withBytes k₁ (t .zeros)) ≡ lengths k
+  span-lengths = touched-lengths (t .touched)
+
+  pub span-ram : length (k₁ .ram) ≡ length (k .ram)
+  span-ram = t .alike .long ∙ ap (λ (l : Lent). l .ram) span-lengths
+
 -- the same of a span of one page, with what its touch answered
 pub record OneTouched (i x n : ℕ) (k : Memory) (a : Touched) (k′ : Memory) : Type 0 where
   pub did : Did (touch i (x / sizesOf (k .head) .page)) k (touchedSays a) (withBytes k′ (clearedFor (k .head) a (k .ram)))
@@ -54,7 +66,7 @@ pub record OneTouched (i x n : ℕ) (k : Memory) (a : Touched) (k′ : Memory) :
 module _ (h : Head) (i x done s b : ℕ) (pos : 0 < sizesOf h .page) (page-is : b ≡ (x + done) / sizesOf h .page)
     (fits : (x + done) % sizesOf h .page + s ≤ sizesOf h .page)
     (before : (j : ℕ) → j < done → (x + j) / sizesOf h .page < (x + done) / sizesOf h .page) (table zeros r : List ℕ) where
-  pub old-more : AlikeBut h i x done table zeros r → AlikeBut h i x (done + s) table zeros r
+  old-more : AlikeBut h i x done table zeros r → AlikeBut h i x (done + s) table zeros r
   old-more a = record { long = a .long; same = λ p d. a .same p (λ j l e. d j (omega arith) e) }
 
   module _ (f : ℕ) (below : f < h .frames) (inside : placeOf (sizesOf h) i b < length table) (a : AlikeBut h i x done table zeros r) where
@@ -96,7 +108,7 @@ module _ (h : Head) (i x done s b : ℕ) (pos : 0 < sizesOf h .page) (page-is : 
       ]
     ]
 
-    pub new-more : AlikeBut h i x (done + s) (set table (placeOf (sizesOf h) i b) f) (zeroed (sizesOf h) f zeros) (zeroedAround (sizesOf h) f (x + done) s r)
+    new-more : AlikeBut h i x (done + s) (set table (placeOf (sizesOf h) i b) f) (zeroed (sizesOf h) f zeros) (zeroedAround (sizesOf h) f (x + done) s r)
     new-more =
         record {
           long = around-long (sizesOf h) f (x + done) s r fits ∙ a .long ∙ sym (length-zeroed (sizesOf h) f zeros);

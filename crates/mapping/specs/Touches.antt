@@ -2,28 +2,24 @@
 use mathlib.Core.Path.{_≡_, refl, sym, ap, _∙_, subst}
 use mathlib.Core.List.{List, [], _∷_, _++_}
 use Prim.Native.Nat.{ℕ, zero, suc, _+_, _*_, _≤_, _<_}
-use native.Mathlib.Nat.{add-zero, add-suc, suc-add, add-assoc}
+use native.Mathlib.Nat.{add-zero, add-assoc}
 use native.Mathlib.Omega.{arith}
 use lib.ListN.{getD, length-append}
-use Rattle.sequence.specs.Lists.{Each}
-use Rattle.sequence.specs.Changes.{changed-then}
+use Rattle.sequence.specs.Lists.{each-append, suc-across}
 use Rattle.machine.specs.declared.PageCall.the-variants.{Touch}
 use Rattle.machine.specs.Machine.{Sizes, placeOf, State, pageFacts, touch, touchAt, touchAll, zeroed, Answer, accepted, after}
 use Rattle.machine.specs.Laws.Stays.{grown-all-touched}
 use Rattle.memory.specs.Memory.{Memory, sizesOf, lengths}
 use Rattle.promise.specs.Holds.{Holds}
 use Rattle.promise.specs.Shown.{Shown}
-use Rattle.promise.specs.Did.{Words, Maps, zeroedAll, FrameOf, Writes, Did}
-use Rattle.promise.specs.Refuses.{words-same}
+use Rattle.promise.specs.Did.{Maps, zeroedAll, FrameOf, Writes, Did}
+use Rattle.promise.specs.Refuses.{words-same, words-then}
 use Rattle.laws.specs.Refusals.{Long, writes-none, passed-step}
 use Rattle.laws.specs.Lengths.{lengths-stay}
 use Rattle.laws.specs.Passing.{page-passes}
 use Rattle.laws.specs.Spans.{AllTouched, none-touched, one-touched}
 
 -- ---- on any memory
-
-words-then : {a b n : ℕ} {ws vs us : List ℕ} → Words a n ws vs → Words b n vs us → Words (a + b) n ws us
-words-then w v = record { few = changed-then (w .few) (v .few); excess = v .excess ∙ w .excess }
 
 -- where nothing was mapped, each page is shown as before
 still-shown : {z : Sizes} {i b n : ℕ} {k k₁ : Memory} → (t : Maps z i b n k k₁) → t .mapped ≡ 0 → (j c : ℕ) → Shown k j c → Shown k₁ j c
@@ -35,11 +31,6 @@ still-shown {k = k} {k₁ = k₁} t e j c s =
 zeroed-all-append : (z : Sizes) (fs gs ram : List ℕ) → zeroedAll z (fs ++ gs) ram ≡ zeroedAll z gs (zeroedAll z fs ram)
 zeroed-all-append z [] gs ram = refl
 zeroed-all-append z (f ∷ fs) gs ram = zeroed-all-append z fs gs (zeroed z f ram)
-
-each-append : (P : ℕ → Type 0) (xs ys : List ℕ) → Each 0 P xs → Each 0 P ys → Each 0 P (xs ++ ys)
-each-append P [] ys a b j l = b j l
-each-append P (x ∷ xs) ys a b zero l = a 0 (omega arith)
-each-append P (x ∷ xs) ys a b (suc j) l = each-append P xs ys (λ k h. a (suc k) (omega arith)) b j (omega arith)
 
 -- touches one after another map and clear what each of them does
 pub all-writes : {i b n : ℕ} {k k₁ : Memory} → AllTouched i b k n k₁ → Writes (sizesOf (k .head)) i b n 0 (λ p. ⊥) k k₁
@@ -88,9 +79,9 @@ all-writes {i} {b} (one-touched {n} {k₁} {k₂} t d) = add-touch n (all-writes
               record {
                 frames = fs ++ gs;
                 one-each = omega (arith, length-append fs gs, first .fills .one-each, w .fills .one-each);
-                below = each-append (λ f. f < z .frames) fs gs (first .fills .below) (w .fills .below);
+                below = each-append 0 (λ f. f < z .frames) fs gs (first .fills .below) (w .fills .below);
                 own =
-                    each-append (FrameOf z i b (suc n) (k₂ .table)) fs gs
+                    each-append 0 (FrameOf z i b (suc n) (k₂ .table)) fs gs
                     (λ j l.
                     let (c, low, is) = first .fills .own j l in
                     (c, omega arith, v .others (placeOf z i (b + c)) (λ d h e. absurd (omega arith)) ∙ is))
@@ -115,7 +106,7 @@ unfolding touchAll
 touch-all-more m p zero = rw add-zero
 touch-all-more m p (suc n) =
     touch-all-more (touchAt m p .after) (suc p) n
-    ∙ ap (λ (q : ℕ). touchAt (touchAll (touchAt m p .after) (suc p) n) q .after) (suc-add p n ∙ sym (add-suc p n))
+    ∙ ap (λ (q : ℕ). touchAt (touchAll (touchAt m p .after) (suc p) n) q .after) (suc-across p n)
 
 -- and lengths stay
 pub touched-lengths : {i b n : ℕ} {k k₁ : Memory} → AllTouched i b k n k₁ → lengths k₁ ≡ lengths k

@@ -12,8 +12,7 @@ ghost use Prim.Native.Nat.{ℕ, _+_, _%_, _≤_, _<_};
 ghost use Rattle.machine.specs.declared.Touched.the-variants.{New};
 ghost use Rattle.machine.specs.Machine.{spanPages};
 ghost use Rattle.memory.specs.Memory.{memory, sizesOf};
-ghost use Rattle.clearing.specs.Clears.{Frame};
-ghost use Rattle.spans.specs.Parts.{Span};
+ghost use Rattle.spans.specs.Parts.{Span, Frame};
 ghost use Rattle.paging.specs.Fits.{Touchable};
 ghost use Rattle.mapping.specs.Spans.{aroundFor, SpanTouched, OneTouched};
 

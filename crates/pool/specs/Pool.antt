@@ -11,16 +11,16 @@ use borrow.Author.Tests.{eq-eqb, ne-eqb, le-leb, lt-leb}
 use lib.ListN.{length, getD, set, length-append}
 use lib.Seq.{getD-set-same, getD-set-other}
 use Rattle.sequence.specs.Lists.{tabulate, length-tabulate}
-use Rattle.sequence.specs.Sums.{sum, sum-map, sum-reverse, sum-append, hit, hit-same, count-none}
+use Rattle.sequence.specs.Sums.{sum, sum-map, sum-reverse, sum-append, hit, hit-same}
 use Rattle.machine.specs.Machine.{State, Pair, places, region, framesOf, withPair}
-use Rattle.machine.specs.Claims.{Sound, noPair, timesFree, timesHeld}
-use Rattle.machine.specs.Laws.Holders.{one-holder, pool-and-resident}
+use Rattle.machine.specs.Claims.{Sound, noPair, timesIn, timesFree}
+use Rattle.machine.specs.Laws.Holders.{no-holder, at-most-once, pool-and-resident}
 use Rattle.memory.specs.Memory.{Memory, at}
 use Rattle.memory.specs.declared.Head.{Head}
 use Rattle.promise.specs.Holds.{Chain, Linked, Pooled, unused, Holds}
 use Rattle.promise.specs.Did.{framesLeft}
 use Rattle.pool.specs.Models.{emptyPool, takenFrom, taken, newestOf}
-use Rattle.pool.specs.Chains.{times, linked-kept, chain-kept, chain-from}
+use Rattle.pool.specs.Chains.{linked-kept, chain-kept, chain-from}
 
 -- ---- entries of a list, and past its end what counts for nothing
 
@@ -48,7 +48,7 @@ frames-cons x xs = simp (reverse-cons, map-append)
 pub frames-snoc : (xs : List Pair) (x : Pair) → framesOf (reverse (xs ++ (x ∷ []))) ≡ x .frame ∷ framesOf (reverse xs)
 frames-snoc xs x = simp reverse-append
 
-times-newest : (f : ℕ) (xs : List Pair) → times f (framesOf (reverse xs)) ≡ sum (λ x. hit f (x .frame)) xs
+times-newest : (f : ℕ) (xs : List Pair) → timesIn f (framesOf (reverse xs)) ≡ sum (λ x. hit f (x .frame)) xs
 times-newest f xs = sum-map (hit f) (λ (x : Pair). x .frame) (reverse xs) ∙ sum-reverse (λ (x : Pair). hit f (x .frame)) xs
 
 -- the first of them is that of the last pair
@@ -68,30 +68,21 @@ Newest m a v = (n : ℕ) → length (region m a) ≡ suc n → v ≡ getD (regio
 -- ---- no frame is in two places
 
 module _ (m : State) (s : Sound m) where
-  no-holder : (f : ℕ) → m .sizes .frames ≤ f → timesFree f m + timesHeld f m ≡ 0
-  no-holder f h = omega (arith, s .whole (hit f), count-none f (λ k. k) (m .sizes .frames) (λ k l. omega arith))
-
-  few-holders : (f : ℕ) → timesFree f m + timesHeld f m ≤ 1
-  few-holders f = elim (decLt f (m .sizes .frames)) [
-    | yes l ↦ omega (arith, one-holder m s f l)
-    | no l ↦ omega (arith, no-holder f (omega arith))
-  ]
-
   pub free-below : (f : ℕ) → 0 < timesFree f m → f < m .sizes .frames
   free-below f h = elim (decLt f (m .sizes .frames)) [
     | yes l ↦ l
-    | no l ↦ absurd (omega (arith, no-holder f (omega arith)))
+    | no l ↦ absurd (omega (arith, no-holder m s f (omega arith)))
   ]
 
-  pub pool-or-region : (f a : ℕ) → timesFree f m + times f (newestFirst m a) ≤ 1
+  pub pool-or-region : (f a : ℕ) → timesFree f m + timesIn f (newestFirst m a) ≤ 1
   pool-or-region f a =
-      omega (arith, few-holders f, times-newest f (region m a), sum-any (λ (xs : List Pair). sum (λ x. hit f (x .frame)) xs) [] refl (m .held) a)
+      omega (arith, at-most-once m s f, times-newest f (region m a), sum-any (λ (xs : List Pair). sum (λ x. hit f (x .frame)) xs) [] refl (m .held) a)
 
-  pub one-region : (f a b : ℕ) → a ≢ b → times f (newestFirst m a) + times f (newestFirst m b) ≤ 1
+  pub one-region : (f a b : ℕ) → a ≢ b → timesIn f (newestFirst m a) + timesIn f (newestFirst m b) ≤ 1
   one-region f a b n =
       omega (
         arith,
-        few-holders f,
+        at-most-once m s f,
         times-newest f (region m a),
         times-newest f (region m b),
         sum-any-two (λ (xs : List Pair). sum (λ x. hit f (x .frame)) xs) [] refl (m .held) a b n,
@@ -99,14 +90,14 @@ module _ (m : State) (s : Sound m) where
 
   -- the first frame of the pool is nowhere else
   module _ (f : ℕ) (rest : List ℕ) (is : m .pool ≡ f ∷ rest) where
-    first-free : timesFree f m ≡ suc (times f rest)
+    first-free : timesFree f m ≡ suc (timesIn f rest)
     first-free = omega (arith, ap (sum (hit f)) is, hit-same f f refl)
 
-    pub not-held : (a : ℕ) → times f (newestFirst m a) ≡ 0
+    pub not-held : (a : ℕ) → timesIn f (newestFirst m a) ≡ 0
     not-held a = omega (arith, first-free, pool-or-region f a)
 
-    pub not-again : times f rest ≡ 0
-    not-again = omega (arith, first-free, few-holders f)
+    pub not-again : timesIn f rest ≡ 0
+    not-again = omega (arith, first-free, at-most-once m s f)
 
 -- ---- the frames never used
 
@@ -148,11 +139,11 @@ module _ (h : Head) (link pool : List ℕ) (p : Pooled h link pool) where
 
   -- the first frame is the one that is taken, and the rest is the pool then, if the frame isn't in the rest
   pub pool-taken : (f : ℕ) (rest : List ℕ) → pool ≡ f ∷ rest
-      → (taken link h .frame ≡ f) × ((v : ℕ) → times f rest ≡ 0 → Pooled (taken link h .head) (set link f v) rest)
+      → (taken link h .frame ≡ f) × ((v : ℕ) → timesIn f rest ≡ 0 → Pooled (taken link h .head) (set link f v) rest)
   pool-taken f rest is = go (p .linked) (h .many) (p .many-is) (sym is ∙ p .pool-is) (p .chain)
     where
       go : (xs : List ℕ) (n : ℕ) → n ≡ length xs → f ∷ rest ≡ xs ++ unused (h .fresh) (h .frames) → Chain link (h .first) xs (p .stop)
-          → (takenFrom link h n .frame ≡ f) × ((v : ℕ) → times f rest ≡ 0 → Pooled (takenFrom link h n .head) (set link f v) rest)
+          → (takenFrom link h n .frame ≡ f) × ((v : ℕ) → timesIn f rest ≡ 0 → Pooled (takenFrom link h n .head) (set link f v) rest)
       go [] zero n e c = elim (decLt (h .fresh) (h .frames)) [
         | yes l ↦
             let u = unused-cons (h .fresh) (h .frames) l in (

@@ -7,16 +7,18 @@ use Prim.Native.Nat.{ℕ, zero, suc, _+_, _*_, _/_, _≤_, _<_}
 use native.Mathlib.Omega.{arith}
 use lib.ListN.{length, getD, drop as dropped}
 use Rattle.sequence.specs.Lists.{Each, Changed}
-use Rattle.sequence.specs.Changes.{changed-zero}
-use Rattle.machine.specs.Machine.{Sizes, placeOf, State, begun, spanPages, Lent, Call, start, mark, touch, look, release, write, facts, asked, answer, after, refusal}
+use Rattle.sequence.specs.Changes.{changed-zero, changed-then}
+use Rattle.machine.specs.Machine.{Sizes, placeOf, State, begun, spanPages, Lent, Call, start, mark, touch, look, release, write, facts, asked, answer, after}
+use Rattle.machine.specs.Machine.{refusal}
 use Rattle.machine.specs.Machine.{Kind, ended, touched, looked, released, counted, translated, copied, listed, refusalOf, Answer, done, old, new, resident}
 use Rattle.machine.specs.Machine.{absent, pages, frames, at, bytes, regions, refused, refusedAfter, Effect, unchanged, prepared, startPut, pageMapped}
 use Rattle.machine.specs.Machine.{regionEmptied, spanStored, zeroed}
 use Rattle.machine.specs.Laws.Zeroed.{length-zeroed, zeroed-beyond}
-use Rattle.memory.specs.Memory.{Memory, memory, withBytes, sizesOf, lengths}
+use Rattle.machine.specs.Claims.{PlaceOf}
+use Rattle.memory.specs.Memory.{Memory, memory, withBytes, sizesOf, placeBy, lengths}
 use Rattle.promise.specs.Holds.{Holds}
 use Rattle.promise.specs.Shown.{Shown, AllShown}
-use Rattle.promise.specs.Did.{Among, Later, Exactly, still, Words, framesLeft, Maps, zeroedAll, FrameOf, PlaceOf, Fills, BoundsBy, Did}
+use Rattle.promise.specs.Did.{Among, Later, Exactly, still, Words, framesLeft, Maps, zeroedAll, FrameOf, Fills, BoundsBy, Did, Writes}
 
 -- the number that document 01's checks for 1 to 3 ask for
 abbrev check : (Lent → Call) → Memory → ℕ
@@ -91,6 +93,10 @@ within (spanStored i x vs) k k′ = memory (k′ .head) (k .index) (k′ .count)
 pub words-same : {n t : ℕ} {ws ws′ : List ℕ} → n ≡ 0 → Words n t ws ws′ → ws′ ≡ ws
 words-same {n} {t} {ws} {ws′} e w = changed-zero (subst (λ m. Changed m ws ws′) e (w .few))
 
+-- one change after another
+pub words-then : {a b n : ℕ} {ws vs us : List ℕ} → Words a n ws vs → Words b n vs us → Words (a + b) n ws us
+words-then w v = record { few = changed-then (w .few) (v .few); excess = v .excess ∙ w .excess }
+
 within-by : (e : Effect) (n : ℕ) (k k′ : Memory) → BoundsBy e n k k′ → k′ ≡ within e k k′
 within-by unchanged n k k′ b = b
 within-by (prepared z) n k k′ b = λ j. memory (k′ .head) (k′ .index) (k′ .count) (b .table j) (b .helper j) (b .stack j) (b .cache j) (b .link j) (b .ram j)
@@ -123,13 +129,13 @@ none-filled {z} {c} {n} {F} {P} {ram} {ram′} w e = go (w .frames) (w .one-each
     go (f ∷ fs) l s = absurd (omega arith)
 
 -- the bytes past the frames stay
-pub zeroed-all-beyond : (z : Sizes) (fs ram : List ℕ) → Each 0 (λ f. f < z .frames) fs
+zeroed-all-beyond : (z : Sizes) (fs ram : List ℕ) → Each 0 (λ f. f < z .frames) fs
     → dropped (z .frames * z .page) (zeroedAll z fs ram) ≡ dropped (z .frames * z .page) ram
 zeroed-all-beyond z [] ram below = refl
 zeroed-all-beyond z (f ∷ fs) ram below =
     zeroed-all-beyond z fs (zeroed z f ram) (λ j l. below (suc j) (omega arith)) ∙ zeroed-beyond z f ram (below 0 (omega arith))
 
-pub fills-beyond : {z : Sizes} {c n : ℕ} {F P : ℕ → Type 0} {ram ram′ : List ℕ} → Fills z c n F P ram ram′
+fills-beyond : {z : Sizes} {c n : ℕ} {F P : ℕ → Type 0} {ram ram′ : List ℕ} → Fills z c n F P ram ram′
     → dropped (z .frames * z .page) ram′ ≡ dropped (z .frames * z .page) ram
 fills-beyond {z} {c} {n} {F} {P} {ram} w = w .stored .excess ∙ zeroed-all-beyond z (w .frames) ram (w .below)
 
@@ -139,6 +145,10 @@ only-ram z i b n k k′ w e = λ j.
     memory (w .none e j) (w .index j) (words-same e (w .count) j) (words-same e (w .table) j) (words-same e (w .helper) j) (words-same e (w .stack) j)
     (words-same e (w .cache) j)
     (words-same e (w .link) j) (k′ .ram)
+
+-- and where no byte is stored either nothing
+none-written : {z : Sizes} {i b c : ℕ} {P : ℕ → Type 0} {k k′ : Memory} → (w : Writes z i b c 0 P k k′) → w .maps .mapped ≡ 0 → k′ ≡ k
+none-written {z} {i} {b} {c} {P} {k} {k′} w e = only-ram z i b c k k′ (w .maps) e ∙ ap (withBytes k) (words-same refl (none-filled (w .fills) e))
 
 -- ---- any call
 
@@ -204,10 +214,6 @@ module _ (i b : ℕ) (k : Memory) (a : Answer) (k′ : Memory) where
   pub release-few : Did (release i b) k a k′ → Changed 1 (k .count) (k′ .count) × Changed 1 (k .link) (k′ .link)
   release-few d = (d .bounds .count .few, d .bounds .link .few)
 
-  -- a touch takes one frame at most and gives none, and where the tables show the page all stays
-  pub touch-takes-one : Did (touch i b) k a k′ → (n : ℕ) × (n ≤ 1) × (framesLeft (k .head) ≡ framesLeft (k′ .head) + n)
-  touch-takes-one d = let w = d .bounds .maps in (w .mapped, w .few, w .taken)
-
   -- the page table changes at the page's own place only
   pub touch-table : Did (touch i b) k a k′ → (p : ℕ) → p ≢ placeOf (sizesOf (k .head)) i b → getD (k′ .table) p 0 ≡ getD (k .table) p 0
   touch-table d p other = d .bounds .maps .others p (λ j l e. other (omega arith))
@@ -226,11 +232,12 @@ module _ (i b : ℕ) (k : Memory) (a : Answer) (k′ : Memory) where
       × (k′ .ram ≡ zeroed (sizesOf (k .head)) f (k .ram))
   touch-new f w d = d .tells f w refl
 
+  -- a touch takes one frame at most and gives none, and where the tables show the page all stays
+  pub touch-takes-one : Did (touch i b) k a k′ → (n : ℕ) × (n ≤ 1) × (framesLeft (k .head) ≡ framesLeft (k′ .head) + n)
+  touch-takes-one d = let (fs, few, taken, _, _) = touch-clears d in (length fs, few, taken)
+
   pub touch-shown : Shown k i b → Did (touch i b) k a k′ → k′ ≡ k
-  touch-shown s d =
-      let w = d .bounds .maps in
-      let e = w .shown (λ j l. subst (Shown k i) (omega arith) s) in
-      only-ram _ i b 1 k k′ w e ∙ ap (withBytes k) (words-same refl (none-filled (d .bounds .fills) e))
+  touch-shown s d = none-written (d .bounds) (d .bounds .maps .shown (λ j l. subst (Shown k i) (omega arith) s))
 
 module _ (i x : ℕ) (k : Memory) (a : Answer) (k′ : Memory) where
   -- a write clears a frame for each that it takes, stores no more than its bytes, none past the frames; each frame and each place is the span's by the
@@ -239,7 +246,7 @@ module _ (i x : ℕ) (k : Memory) (a : Answer) (k′ : Memory) where
       → (fs : List ℕ) × (framesLeft (k .head) ≡ framesLeft (k′ .head) + length fs)
       × Changed (length vs) (zeroedAll (sizesOf (k .head)) fs (k .ram)) (k′ .ram) × (beyond k (k′ .ram) ≡ beyond k (k .ram))
       × Each 0 (FrameOf (sizesOf (k .head)) i (x / sizesOf (k .head) .page) (spanPages (sizesOf (k .head)) x (length vs)) (k′ .table)) fs
-      × ((p : ℕ) → (PlaceOf (k′ .head) i x (length vs) (k′ .table) p → ⊥) → getD (k′ .ram) p 0 ≡ getD (zeroedAll (sizesOf (k .head)) fs (k .ram)) p 0)
+      × ((p : ℕ) → (PlaceOf (placeBy (k′ .head) i (k′ .table)) x (length vs) p → ⊥) → getD (k′ .ram) p 0 ≡ getD (zeroedAll (sizesOf (k .head)) fs (k .ram)) p 0)
   write-few vs d =
       let w = d .bounds in
       let f = w .fills in
@@ -252,7 +259,4 @@ module _ (i x : ℕ) (k : Memory) (a : Answer) (k′ : Memory) where
 
   -- an empty one changes nothing
   pub write-empty : Did (write i x []) k a k′ → k′ ≡ k
-  write-empty d =
-      let w = d .bounds .maps in
-      let e : w .mapped ≡ 0 = omega (arith, w .few) in
-      only-ram _ i _ _ k k′ w e ∙ ap (withBytes k) (words-same refl (none-filled (d .bounds .fills) e))
+  write-empty d = none-written (d .bounds) (omega (arith, d .bounds .maps .few))

@@ -19,7 +19,7 @@ use Rattle.index.specs.Laws.{index-bit}
 use Rattle.machine.specs.declared.PageCall.the-variants.{Release}
 use Rattle.machine.specs.Machine.{Sizes, places, placeOf, State, Pair, isStart, region, framesOf, emptied, releaseAt, release, uses, asked, Answer, pages}
 use Rattle.machine.specs.Machine.{refused, step, accepted, answer, after}
-use Rattle.machine.specs.Claims.{noPair}
+use Rattle.machine.specs.Claims.{noPair, timesIn}
 use Rattle.machine.specs.Laws.Sizes.{both}
 use Rattle.machine.specs.Laws.Kept.{start-of-pair, start-below, sound-emptied}
 use Rattle.machine.specs.Laws.Holders.{frame-below}
@@ -33,7 +33,7 @@ use Rattle.laws.specs.Models.{releaseLengths}
 use Rattle.laws.specs.Refusals.{words-none, Admitted, admitted, kept-did, checked-did, passed-step}
 use Rattle.laws.specs.Checks.{page-check}
 use Rattle.laws.specs.Room.{owned-below}
-use Rattle.pool.specs.Chains.{times, linked-kept, chain-spliced}
+use Rattle.pool.specs.Chains.{linked-kept, chain-spliced}
 use Rattle.pool.specs.Pool.{newestFirst, frames-cons, pool-or-region, one-region, many-fit, newest-honest, chain-newest}
 
 -- ---- the code's test of a region with n pages
@@ -126,13 +126,13 @@ module _ (m : State) (k : Memory) (H : Holds m k) (a : ℕ) (x : Pair) (xs : Lis
   frames-are : newestFirst m a ≡ framesOf (reverse xs) ++ (x .frame ∷ [])
   frames-are = ap (λ (ys : List Pair). framesOf (reverse ys)) is ∙ frames-cons x xs
 
-  oldest-held : times (x .frame) (newestFirst m a) ≡ suc (times (x .frame) (framesOf (reverse xs)))
+  oldest-held : timesIn (x .frame) (newestFirst m a) ≡ suc (timesIn (x .frame) (framesOf (reverse xs)))
   oldest-held = rw frames-are (omega (arith, sum-append (hit (x .frame)) (framesOf (reverse xs)) (x .frame ∷ []), hit-same (x .frame) (x .frame) refl))
 
-  not-younger : times (x .frame) (framesOf (reverse xs)) ≡ 0
+  not-younger : timesIn (x .frame) (framesOf (reverse xs)) ≡ 0
   not-younger = omega (arith, oldest-held, pool-or-region m (H .sound) (x .frame) a)
 
-  not-linked : times (x .frame) (H .pooled .linked) ≡ 0
+  not-linked : timesIn (x .frame) (H .pooled .linked) ≡ 0
   not-linked =
       let p = H .pooled in
       omega (

@@ -1,12 +1,13 @@
 -- A page's part of a span: where it lies in RAM, and the next one after it.
 use mathlib.Core.Path.{_≡_, sym, ap, _∙_}
-use mathlib.Core.List.{List}
+use mathlib.Core.List.{List, _++_, append-assoc}
 use Prim.Native.Nat.{ℕ, zero, suc, _+_, _-_, _*_, _/_, _%_, _≤_, _<_, min}
 use native.Mathlib.Nat.{mod-lt, div-add-mod', div-lt-iff-lt-mul, mul-le-mul-left, mul-le-mul-right, add-sub-cancel-left, add-zero, add-assoc}
 use native.Mathlib.Omega.{arith}
+use borrow.Rule.Slice.PartMut.{putMid}
 use lib.Arith.{digits-div}
 use lib.ListN.{length, take, drop, length-drop}
-use lib.Seq.{length-take-le}
+use lib.Seq.{sets, sets-eq, drop-drop, length-take-le}
 use Rattle.places.specs.Laws.{div-mono}
 use Rattle.machine.specs.Machine.{Sizes, spanPages}
 use Rattle.machine.specs.Claims.{Address}
@@ -14,8 +15,34 @@ use Rattle.machine.specs.Laws.Sizes.{fit}
 use Rattle.memory.specs.Memory.{sizesOf}
 use Rattle.memory.specs.declared.Head.{Head}
 use Rattle.laws.specs.Parts.{same-page}
-use Rattle.spans.specs.Parts.{Span, Part, RamPlace}
+use Rattle.spans.specs.Parts.{Span, Part, Frame, RamPlace}
 use Rattle.spans.specs.Shifted.{some-page, page-small}
+
+-- a part of a list that ends within it
+pub next-long : (bytes : List ℕ) (a b : ℕ) → b ≤ length bytes → length (take (b - a) (drop a bytes)) ≡ b - a
+next-long bytes a b l = length-take-le (b - a) (drop a bytes) (rw length-drop (omega arith))
+
+-- what comes back of a part that was lent on
+pub put-sets : (from n : ℕ) (ram vs : List ℕ) → length vs ≡ n → from + n ≤ length ram → putMid from n ram vs ≡ sets ram from vs
+put-sets from n ram vs e l =
+    ap (λ (ws : List ℕ). take from ram ++ (vs ++ ws)) (drop-drop n from ram)
+    ∙ sym (append-assoc (take from ram) vs (drop (from + n) ram))
+    ∙ ap (λ (k : ℕ). take from ram ++ vs ++ drop (from + k) ram) (sym e)
+    ∙ sym (sets-eq vs ram from (rw e l))
+
+-- a frame's end lies in the RAM, and is small
+module _ {h : Head} {f : ℕ} {ram : List ℕ} (r : Frame h f ram) where
+  pub frame-ends : f * sizesOf h .page + sizesOf h .page ≤ length ram
+  frame-ends = omega (arith, r .ram-long, mul-le-mul-right (sizesOf h .page) (r .below))
+
+  pub frame-low : f * sizesOf h .page + sizesOf h .page ≤ 4294967296
+  frame-low =
+      omega (
+        arith,
+        mul-le-mul-right (sizesOf h .page) (r .below),
+        mul-le-mul-right (sizesOf h .page) (fit (sizesOf h) (r .sizes-ok) .few-frames),
+        mul-le-mul-left 65536 (page-small h (r .sizes-ok)),
+      )
 
 module _ (h : Head) (i x n : ℕ) (ram : List ℕ) (pre : Part h i x n ram) where
   -- its first byte
@@ -28,24 +55,17 @@ module _ (h : Head) (i x n : ℕ) (ram : List ℕ) (pre : Part h i x n ram) wher
 
   -- in the frame
   module _ (from : ℕ) (at : RamPlace h x from) where
-    pub part-in-frame : from + n ≤ h .frames * sizesOf h .page
-    part-in-frame = omega (arith, at .is, pre .fits, mul-le-mul-right (sizesOf h .page) (at .below))
+    frame : Frame h (at .frame) ram
+    frame = record { sizes-ok = pre .span .sizes-ok; below = at .below; ram-long = pre .span .ram-long }
 
     pub part-ends : from + n ≤ length ram
-    part-ends = omega (arith, part-in-frame, pre .span .ram-long)
+    part-ends = omega (arith, at .is, pre .fits, frame-ends frame)
 
     pub part-low : from + n ≤ 4294967296
-    part-low =
-        omega (
-          arith,
-          part-in-frame,
-          mul-le-mul-right (sizesOf h .page) (fit (sizesOf h) (pre .span .sizes-ok) .few-frames),
-          mul-le-mul-left 65536 (page-small h (pre .span .sizes-ok)),
-        )
+    part-low = omega (arith, at .is, pre .fits, frame-low frame)
 
     pub part-long : length (take (from + n - from) (drop from ram)) ≡ n
-    part-long =
-        length-take-le (from + n - from) (drop from ram) (rw length-drop (omega (arith, part-ends))) ∙ add-sub-cancel-left from n
+    part-long = next-long ram from (from + n) part-ends ∙ add-sub-cancel-left from n
 
 -- a span of one page is a part
 pub one-page : (h : Head) (i x n : ℕ) (ram : List ℕ) → Span h i x n ram → spanPages (sizesOf h) x n ≡ 1 → Part h i x n ram
@@ -57,15 +77,19 @@ one-page h i x (suc n) ram s e =
 
 -- ---- parts one after another
 
--- a part of the caller's bytes that ends within them
-pub next-long : (bytes : List ℕ) (a b : ℕ) → b ≤ length bytes → length (take (b - a) (drop a bytes)) ≡ b - a
-next-long bytes a b l = length-take-le (b - a) (drop a bytes) (rw length-drop (omega arith))
+-- the next s of n bytes are some, and of one page
+module _ (z : Sizes) (x n done s : ℕ) (pos : 0 < z .page) (low : done < n) (is : s ≡ min (z .page - (x + done) % z .page) (n - done)) where
+  pub some-next : 0 < s
+  some-next = omega (arith, mod-lt (x + done) pos)
+
+  pub next-fits : (x + done) % z .page + s ≤ z .page
+  next-fits = omega (arith, mod-lt (x + done) pos)
 
 -- the next s of n bytes, of which `done` are copied
 module _ (h : Head) (i x n : ℕ) (ram : List ℕ) (pre : Span h i x n ram) (done s : ℕ) (low : done < n)
     (is : s ≡ min (sizesOf h .page - (x + done) % sizesOf h .page) (n - done)) where
   pub next-some : 0 < s
-  next-some = omega (arith, mod-lt (x + done) (some-page h (pre .sizes-ok)))
+  next-some = some-next (sizesOf h) x n done s (some-page h (pre .sizes-ok)) low is
 
   pub next-within : done + s ≤ n
   next-within = omega arith
@@ -76,7 +100,7 @@ module _ (h : Head) (i x n : ℕ) (ram : List ℕ) (pre : Span h i x n ram) (don
       record {
         span = record { sizes-ok = pre .sizes-ok; space = pre .space; ends = omega (arith, pre .ends); ram-long = pre .ram-long };
         some-bytes = omega (arith, next-some);
-        fits = omega (arith, mod-lt (x + done) (some-page h (pre .sizes-ok)));
+        fits = omega (arith, next-fits (sizesOf h) x n done s (some-page h (pre .sizes-ok)) low is);
       }
 
 -- the pages of the bytes done so far lie before that of the next byte
@@ -96,14 +120,11 @@ module _ (z : Sizes) (x n : ℕ) (pos : 0 < z .page) where
   pages-before zero p l j h = absurd (omega arith)
 
   module _ (done s : ℕ) (p : PagesDone z x n done) (low : done < n) (is : s ≡ min (z .page - (x + done) % z .page) (n - done)) where
-    some : 0 < s
-    some = omega (arith, mod-lt (x + done) pos)
-
     pub one-page-more : spanPages z x (done + s) ≡ suc (spanPages z x done)
     one-page-more =
         let y = x + done in
-        let last = same-page (z .page) y (s - 1) (omega (arith, mod-lt y pos)) in
-        let n-is : done + s ≡ suc (done + (s - 1)) = omega (arith, some) in
+        let last = same-page (z .page) y (s - 1) (omega (arith, next-fits z x n done s pos low is, some-next z x n done s pos low is)) in
+        let n-is : done + s ≡ suc (done + (s - 1)) = omega (arith, some-next z x n done s pos low is) in
         ap (spanPages z x) n-is
         ∙ ap suc
         (ap (λ (c : ℕ). c / z .page - x / z .page) (sym (add-assoc x done (s - 1))) ∙ ap (λ (c : ℕ). c - x / z .page) (last .0)

@@ -21,6 +21,12 @@ pub record Part (h : Head) (i x n : ℕ) (ram : List ℕ) : Type 0 where
   pub some-bytes : 0 < n
   pub fits : x % sizesOf h .page + n ≤ sizesOf h .page
 
+-- a frame that there is, in a RAM that has it
+pub record Frame (h : Head) (f : ℕ) (ram : List ℕ) : Type 0 where
+  pub sizes-ok : sizesOk (sizesOf h) ≡ true
+  pub below : f < h .frames
+  pub ram-long : sizesOf h .frames * sizesOf h .page ≤ length ram
+
 -- place q of the RAM is that of address x in one of the frames
 pub record RamPlace (h : Head) (x q : ℕ) : Type 0 where
   pub frame : ℕ

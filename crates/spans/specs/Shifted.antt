@@ -5,11 +5,10 @@ use Prim.Native.Nat.{ℕ, zero, suc, _+_, _-_, _*_, _/_, _%_, _^_, _≤_, _<_}
 use native.Mathlib.Nat.{mod-eq-of-lt, mod-lt, div-le-self, mul-le-mul-right, mul-le-mul-left}
 use native.Mathlib.Omega.{arith}
 use lib.Pow.{pow-mono, shl-exact}
-use Rattle.places.specs.Laws.{div-mono}
+use Rattle.places.specs.Laws.{div-mono, one-shifted}
 use Rattle.machine.specs.Machine.{sizesOk, spaceBytes, spanPages}
 use Rattle.machine.specs.Answers.{sizeOf}
 use Rattle.machine.specs.Laws.Sizes.{fit, some-bytes}
-use Rattle.machine.specs.Laws.PageSizes.{one-shifted}
 use Rattle.memory.specs.Memory.{sizesOf}
 use Rattle.memory.specs.declared.Head.{Head}
 use Rattle.checks.specs.Shifts.{shift-fits}

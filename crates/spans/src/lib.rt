@@ -5,7 +5,7 @@ use machine::Looked;
 use memory::Head;
 ghost use mathlib.Core.Path.{_≡_};
 ghost use mathlib.Core.Bool.{true};
-ghost use Prim.Native.Nat.{_+_, _-_, _*_, _/_, _%_, _<_, _≤_, min};
+ghost use Prim.Native.Nat.{_+_, _-_, _/_, _%_, _<_, _≤_, min};
 ghost use lib.ListN.{length};
 ghost use Rattle.machine.specs.Machine.{sizesOk, spaceBytes, places, pageOfAddress, spanPages};
 ghost use Rattle.machine.specs.Claims.{Address};

@@ -1,7 +1,7 @@
 -- A page's part of a span stored where the page table has it; on honest memory that is where the machine has it.
 use mathlib.Core.Path.{_≡_, refl, sym, ap, _∙_}
 use mathlib.Core.Bool.{Bool, true, false, cond}
-use mathlib.Core.Option.{Option, none, some, Option·none-ne-some, Option·some-injective}
+use mathlib.Core.Option.{none, some, Option·none-ne-some, Option·some-injective}
 use mathlib.Core.List.{List}
 use Prim.Native.Nat.{ℕ, _+_, _*_, _%_, _≤_, _<_}
 use native.Mathlib.Nat.{mod-lt, mul-le-mul-right}
@@ -10,7 +10,7 @@ use borrow.Author.Tests.{lt-ltb, le-ltb, ltb-true}
 use lib.Dec.{ltb}
 use lib.ListN.{length}
 use lib.Seq.{sets}
-use Rattle.machine.specs.Machine.{Sizes, placeOf, pageOfAddress, State, ramAt, storedAt, stored}
+use Rattle.machine.specs.Machine.{placeOf, pageOfAddress, State, ramAt, storedAt, stored}
 use Rattle.machine.specs.Laws.Stays.{IsMapped}
 use Rattle.memory.specs.Memory.{Memory, at, sizesOf, placeIn, placeBy}
 use Rattle.memory.specs.declared.Head.{Head}
@@ -18,8 +18,6 @@ use Rattle.promise.specs.Holds.{Holds}
 use Rattle.promise.specs.Did.{Words}
 use Rattle.laws.specs.Parts.{same-page}
 use Rattle.lookup.specs.Lookup.{table-place}
-use Rattle.spans.specs.Parts.{Span, Part}
-use Rattle.spans.specs.Shifted.{some-page}
 use Rattle.storing.specs.Storing.{stored-run, stored-nowhere, stored-same, stored-words}
 
 -- the page of each of n addresses from x on is mapped

@@ -12,9 +12,8 @@ use Rattle.memory.specs.Memory.{Memory, memory, at}
 use Rattle.memory.specs.declared.Head.{Head}
 use Rattle.promise.specs.Holds.{Holds}
 use Rattle.promise.specs.Shown.{residentOk, frameOf, Shown}
-use Rattle.lookup.specs.declared.Sight.the-variants as sight-is
-use Rattle.lookup.specs.Lookup.{mapped-resident, table-frame, seen-honest}
-use Rattle.lookup.specs.Sights.{frame-seen}
+use Rattle.lookup.specs.Lookup.{mapped-resident, table-frame}
+use Rattle.lookup.specs.Sights.{shown-mapped}
 use Rattle.surveying.specs.Surveys.{Counted}
 
 -- ---- the last of a span's pages
@@ -40,11 +39,7 @@ module _ (m : State) where
 
 module _ (m : State) (k : Memory) (H : Holds m k) (i b : ℕ) where
   shown-there : i < m .sizes .spaces → b < m .sizes .pages → Shown k i b → isUnmapped (pageOf m (placeOf (m .sizes) i b)) ≡ 0
-  shown-there s l shown =
-      let f = frameOf (k .head) i b (k .count) (k .table) (k .helper) (k .stack) (k .cache) in
-      let here = seen-honest m k H i b s l (sight-is.Mapped f)
-      (frame-seen (k .head) i b (k .index) (k .count) (k .table) (k .helper) (k .stack) (k .cache) refl shown) in
-      rw (here .1)
+  shown-there s l shown = rw (shown-mapped m k H i b s l shown .1)
 
   mapped-shown : (a f : ℕ) → Mapped m (placeOf (m .sizes) i b) a f → Shown k i b
   mapped-shown a f is =

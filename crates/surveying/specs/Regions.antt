@@ -2,14 +2,15 @@
 use mathlib.Core.Path.{_≡_, refl, sym, ap, _∙_}
 use mathlib.Core.Bool.{Bool, true, false, _||_}
 use mathlib.Core.Option.{Option, none, some}
-use mathlib.Core.List.{List, []}
+use mathlib.Core.List.{List}
 use Prim.Native.Nat.{ℕ, zero, suc, _+_, _*_, _/_, _≤_, _<_}
 use lib.Arith.{digits-div}
 use native.Mathlib.Decide.{ℕ-discrete}
 use native.Mathlib.Omega.{arith}
 use lib.ListN.{getD}
-use Rattle.machine.specs.Machine.{placeOf, State, startIn, startOf, frameIn, pageAt, pageIn, pageOf, isOutside, anyOutside}
+use Rattle.machine.specs.Machine.{placeOf, State, startIn, startOf, pageAt, pageOf, isOutside, anyOutside}
 use Rattle.machine.specs.Laws.Regions.{owner-of, is-owner, own-start}
+use Rattle.machine.specs.Laws.Stays.{noStart, outside-by-start}
 
 -- the page after one with a region has one, if it lies in the same space: the same, or its own
 next-region : (n : ℕ) (starts : List Bool) (p a : ℕ) → suc p / n ≡ p / n → startIn n starts p ≡ some a → (c : ℕ) × (startIn n starts (suc p) ≡ some c)
@@ -45,11 +46,7 @@ module _ (m : State) where
       go (some a) s e = (a, s)
 
   in-region : (p a : ℕ) → startOf m p ≡ some a → isOutside (pageOf m p) ≡ false
-  in-region p a s = ap (λ (o : Option ℕ). isOutside (pageAt (m .held) p o)) s ∙ go (frameIn p (getD (m .held) a []))
-    where
-      go : (r : Option ℕ) → isOutside (pageIn a r) ≡ false
-      go none = refl
-      go (some f) = refl
+  in-region p a s = outside-by-start (m .held) p (startOf m p) ∙ ap noStart s
 
   next-inside : (i b : ℕ) → suc b < m .sizes .pages → isOutside (pageOf m (placeOf (m .sizes) i b)) ≡ false
       → isOutside (pageOf m (suc (placeOf (m .sizes) i b))) ≡ false

@@ -15,7 +15,7 @@ ghost use Rattle.machine.specs.declared.Touched.the-variants.{New};
 ghost use Rattle.machine.specs.Answers.{touchedSays};
 ghost use Rattle.memory.specs.Memory.{memory};
 ghost use Rattle.promise.specs.Did.{Did};
-ghost use Rattle.clearing.specs.Clears.{Frame};
+ghost use Rattle.spans.specs.Parts.{Frame};
 ghost use Rattle.paging.specs.Models.{clearedFor};
 
 // Clears the frame of a page that was mapped.

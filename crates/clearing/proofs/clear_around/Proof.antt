@@ -6,7 +6,8 @@ use native.Mathlib.Omega.{arith}
 use lib.ListN.{length, replicate}
 use lib.Seq.{sets, length-sets}
 use borrow.Author.Needs.{needs}
-use Rattle.clearing.proofs.Cleared.{frame-start, frame-ends, frame-low, around-cleared}
+use Rattle.spans.specs.PartLaws.{frame-ends, frame-low}
+use Rattle.clearing.proofs.Cleared.{frame-start, around-cleared}
 use Rattle.clearing.proofs.clear_around.Statement.{statement}
 use Rattle.clearing.proofs.clear_around.Tie as tie
 

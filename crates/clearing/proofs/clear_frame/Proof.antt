@@ -2,7 +2,8 @@
 use mathlib.Core.Path.{_∙_}
 use native.Mathlib.Omega.{arith}
 use borrow.Author.Needs.{needs}
-use Rattle.clearing.proofs.Cleared.{frame-start, frame-ends, frame-low, frame-cleared}
+use Rattle.spans.specs.PartLaws.{frame-ends, frame-low}
+use Rattle.clearing.proofs.Cleared.{frame-start, frame-cleared}
 use Rattle.clearing.proofs.clear_frame.Statement.{statement}
 use Rattle.clearing.proofs.clear_frame.Tie as tie
 

@@ -11,11 +11,10 @@ use Rattle.sequence.specs.Sums.{sum, sum-map, sum-reverse, sum-append, hit, hit
 use Rattle.places.specs.Places.{size}
 use Rattle.index.specs.Words.{IndexOf}
 use Rattle.machine.specs.Machine.{Sizes, places, State, Pair, Lent, Uses, isStart, region, framesOf, withRam}
-use Rattle.machine.specs.Claims.{noPair}
+use Rattle.machine.specs.Claims.{noPair, timesIn}
 use Rattle.machine.specs.Laws.Kept.{sound-stored}
 use Rattle.memory.specs.Memory.{Memory, at, sizesOf, lengths}
 use Rattle.promise.specs.Holds.{Chain, Pooled, unused, Placed, Holds}
-use Rattle.pool.specs.Chains.{times}
 use Rattle.pool.specs.Pool.{sum-any, free-below}
 use Rattle.laws.specs.Refusals.{Long}
 use Rattle.laws.specs.Room.{owned-below}
@@ -47,7 +46,7 @@ same-take n l l′ h h′ s =
 
 -- ---- chains
 
-chain-same : (n : ℕ) (link link′ : List ℕ) → Same n link link′ → (a b : ℕ) (xs : List ℕ) → ((f : ℕ) → 0 < times f xs → f < n) → Chain link a xs b
+chain-same : (n : ℕ) (link link′ : List ℕ) → Same n link link′ → (a b : ℕ) (xs : List ℕ) → ((f : ℕ) → 0 < timesIn f xs → f < n) → Chain link a xs b
     → Chain link′ a xs b
 chain-same n link link′ s a b [] below c = c
 chain-same n link link′ s a b (x ∷ xs) below c =
@@ -69,7 +68,7 @@ pub record Agree (z : Sizes) (k k′ : Memory) : Type 0 where
 
 module _ (m : State) (k k′ : Memory) (H : Holds m k) (A : Agree (m .sizes) k k′) where
   -- a region's frames are below F
-  held-below : (a f : ℕ) → 0 < times f (framesOf (reverse (region m a))) → f < m .sizes .frames
+  held-below : (a f : ℕ) → 0 < timesIn f (framesOf (reverse (region m a))) → f < m .sizes .frames
   held-below a f h = elim (decLt f (m .sizes .frames)) [
     | yes l ↦ l
     | no l ↦
@@ -85,7 +84,7 @@ module _ (m : State) (k k′ : Memory) (H : Holds m k) (A : Agree (m .sizes) k k
   ]
 
   -- and so are those linked in the pool
-  linked-below : (f : ℕ) → 0 < times f (H .pooled .linked) → f < m .sizes .frames
+  linked-below : (f : ℕ) → 0 < timesIn f (H .pooled .linked) → f < m .sizes .frames
   linked-below f h =
       free-below m (H .sound) f
       (omega (arith, ap (sum (hit f)) (H .pooled .pool-is), sum-append (hit f) (H .pooled .linked) (unused (k .head .fresh) (k .head .frames))))

@@ -10,14 +10,14 @@ use lib.Seq.{length-take-le, take-length, drop-length, getD-take, set-append-lef
 use Rattle.sequence.specs.Lists.{tabulate}
 use Rattle.sequence.specs.Sums.{hit-same}
 use Rattle.machine.specs.declared.PageCall.the-variants.{Touch}
-use Rattle.machine.specs.Machine.{Sizes, State, Lent, Page, outside, unmapped, mapped, placeOf, pageOf, wordsAt, pageOfAddress, spanPages, ramAt, Call, page}
+use Rattle.machine.specs.Machine.{State, Lent, Page, outside, unmapped, mapped, placeOf, pageOf, wordsAt, pageOfAddress, spanPages, ramAt, Call, page}
 use Rattle.machine.specs.Machine.{read, write, asked, Answer, bytes, Out, tell, withPair, touchNew, touchPage, touchAt, touchAll, spanAbsence}
-use Rattle.machine.specs.Machine.{byteIn, byteAt, readIf, storeIn, storedAt, stored, withRam, storeAll, spanTouched, spanOutside, spanShort, writeIf, refusal}
+use Rattle.machine.specs.Machine.{byteIn, byteAt, readIf, storeIn, storedAt, stored, withRam, storeAll, spanOutside, spanShort, writeIf, refusal}
 use Rattle.machine.specs.Machine.{accepted, unless, step, answer, after}
-use Rattle.machine.specs.Claims.{Sound}
+use Rattle.machine.specs.Claims.{Sound, RamFits}
 use Rattle.machine.specs.Laws.Kept.{sound-stored}
 use Rattle.machine.specs.Laws.Steps.{sound-touched, sound-all-touched}
-use Rattle.machine.specs.Laws.Stays.{grown-touched, grown-all-touched}
+use Rattle.machine.specs.Laws.Stays.{grown-fits, grown-touched, grown-all-touched}
 use Rattle.machine.specs.Laws.Holders.{ram-below}
 use Rattle.machine.specs.Laws.Unseen.{absence-any, outside-any, absent-any}
 use Rattle.machine.specs.Laws.Zeroed.{zeroed-front}
@@ -77,7 +77,7 @@ module _ (m : State) (s : Sound m) where
 -- ---- touches, with bytes put behind the RAM
 
 module _ (rest : List ℕ) where
-  touch-mended : (m : State) → Sound m → m .sizes .frames * m .sizes .page ≤ length (m .ram) → (p w : ℕ) (g : Page)
+  touch-mended : (m : State) → Sound m → RamFits m → (p w : ℕ) (g : Page)
       → touchPage (mended m rest) p w g .after ≡ mended (touchPage m p w g .after) rest
   touch-mended m s room p w outside = refl
   touch-mended m s room p w (mapped a f) = refl
@@ -90,16 +90,14 @@ module _ (rest : List ℕ) where
           first-below : m .pool ≡ f ∷ fs → f < m .sizes .frames
           first-below e = free-below m s f (rw e (omega (arith, hit-same f f refl)))
 
-  all-touched-mended : (m : State) → Sound m → m .sizes .frames * m .sizes .page ≤ length (m .ram) → (p k : ℕ)
+  all-touched-mended : (m : State) → Sound m → RamFits m → (p k : ℕ)
       → touchAll (mended m rest) p k ≡ mended (touchAll m p k) rest
   unfolding touchAll
   all-touched-mended m s room p zero = refl
   all-touched-mended m s room p (suc k) =
       let w = wordsAt m p in
-      let g = grown-touched m s p w in
       ap (λ (x : State). touchAll x (suc p) k) (touch-mended m s room p w (pageOf m p))
-      ∙ all-touched-mended (touchAt m p .after) (sound-touched m s p w)
-      (omega (arith, room, g .ram-size, ap (λ (z : Sizes). z .frames * z .page) (g .sizes-same))) (suc p) k
+      ∙ all-touched-mended (touchAt m p .after) (sound-touched m s p w) (grown-fits (grown-touched m s p w) room) (suc p) k
 
 -- the answer doesn't look at the RAM
 touch-told : (m : State) (ram : List ℕ) (p w : ℕ) (g : Page) → touchPage (withRam m ram) p w g .answer ≡ touchPage m p w g .answer
@@ -145,7 +143,7 @@ module _ (m : State) (s : Sound m) (n : ℕ) (enough : m .sizes .frames * m .siz
     sound-cut : Sound (cut n m)
     sound-cut = sound-stored m s (take n (m .ram))
 
-    cut-room : m .sizes .frames * m .sizes .page ≤ length (take n (m .ram))
+    cut-room : RamFits (cut n m)
     cut-room = omega (arith, enough, length-take-le n (m .ram) fits)
 
     pub same-touch : (i b : ℕ) (l : Lent) → SameCut n m (page Touch i b l)
@@ -175,8 +173,7 @@ module _ (m : State) (s : Sound m) (n : ℕ) (enough : m .sizes .frames * m .siz
             answers = refl;
             mends =
                 ap (withRam c)
-                (sym (stored-front c (sound-all-touched (cut n m) p k sound-cut) i x vs (c .ram) rest
-                (omega (arith, cut-room, g .ram-size, ap (λ (z : Sizes). z .frames * z .page) (g .sizes-same)))))
+                (sym (stored-front c (sound-all-touched (cut n m) p k sound-cut) i x vs (c .ram) rest (grown-fits g cut-room)))
                 ∙ ap (λ (y : State). storeAll y i x vs)
                 (sym (all-touched-mended rest (cut n m) sound-cut cut-room p k) ∙ ap (λ (y : State). touchAll y p k) whole);
           }

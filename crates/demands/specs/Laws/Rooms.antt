@@ -1,20 +1,19 @@
 -- A call of a sequence that passed the checks and was lent the RAM was lent room enough in it.
 use mathlib.Core.Path.{_≡_, ap, subst}
-use mathlib.Core.Bool.{true}
 use mathlib.Core.List.{List}
-use Prim.Native.Nat.{ℕ, _≤_}
+use Prim.Native.Nat.{_≤_}
 use native.Mathlib.Omega.{arith}
 use lib.ListN.{length}
-use Rattle.machine.specs.Machine.{Sizes, State, uses, asked, after}
+use Rattle.machine.specs.Machine.{Sizes, State, asked, after}
 use Rattle.machine.specs.Laws.Calls.{RoomFor}
 use Rattle.machine.specs.Laws.Hidden.{AllRoom}
-use Rattle.memory.specs.Memory.{Memory, lengths}
+use Rattle.memory.specs.Memory.{Memory}
 use Rattle.promise.specs.Holds.{Holds}
-use Rattle.demands.specs.History.{Lends, Event, played, calls, Step, lent-front, lent-short, Run, none, next}
+use Rattle.demands.specs.History.{Event, played, calls, Step, lent-front, lent-short, Run, none, next}
 use Rattle.demands.specs.Laws.Lent.{asked-long}
 use Rattle.demands.specs.Laws.Step.{told, step-follows}
 
-step-room : (m : State) (k : Memory) (e : Event) (k′ : Memory) → Holds m k → Step k e k′ → RoomFor m (played e)
+pub step-room : (m : State) (k : Memory) (e : Event) (k′ : Memory) → Holds m k → Step k e k′ → RoomFor m (played e)
 step-room m k e k′ H (lent-front f) passes lent =
     let t = told k e k′ f in
     let part : e .lent .ram ≤ length (k .ram) = rw lent at (t .parts .ram) in

@@ -1,7 +1,7 @@
 -- What each call keeps, one entry a call; from it what any call keeps, and any history.
 use mathlib.Core.Path.{_≡_, refl, sym, ap, ap₂, _∙_, subst}
 use mathlib.Core.Bool.{Bool, true, false, not, _&&_, _||_, false≢true}
-use mathlib.Core.Option.{Option, none, some}
+use mathlib.Core.Option.{Option, none, some, Option·none-ne-some}
 use mathlib.Core.List.{List, [], _∷_}
 use Prim.Native.Nat.{ℕ, zero, suc, _+_, _*_, _≤_}
 use native.Mathlib.Omega.{arith}
@@ -15,8 +15,8 @@ use Rattle.machine.specs.Machine.{Call, start, page, free, translate, re
 use Rattle.machine.specs.Machine.{lentOk, refusal, sizesBy, sizesFor, asked, Effect, unchanged, prepared, startPut, pageMapped, regionEmptied, spanStored}
 use Rattle.machine.specs.Machine.{Kind, ended, touched, looked, released, counted, translated, copied, listed, refusalOf, Answer, done, Out, tell}
 use Rattle.machine.specs.Machine.{withRam, markAt, dropAt, spanOutside, spanShort, accepted, unless, step, answer, after, afterAll}
-use Rattle.machine.specs.Claims.{Sound, Address, isRefused, shows, orZero, inRun, isBeginning, aimsAt, aims, ends, showsBy, showsFrom, showsAfter}
-use Rattle.machine.specs.Claims.{Spared, MayChangeBy, MayChange}
+use Rattle.machine.specs.Claims.{Sound, Address, RamFits, isRefused, shows, orZero, inRun, isBeginning, aimsAt, aims, ends, showsBy, showsFrom}
+use Rattle.machine.specs.Claims.{showsAfter, Spared, MayChangeBy, MayChange}
 use Rattle.machine.specs.Laws.Sizes.{both, passed}
 use Rattle.machine.specs.Laws.Kept.{sound-begun}
 use Rattle.machine.specs.Laws.Steps.{sound-marked-or-not, sound-dropped-or-not, sound-touched, sound-released-or-not, sound-written, touch-sizes}
@@ -28,7 +28,7 @@ use Rattle.machine.specs.Laws.Unseen.{Alike, same-answer, told-alike, ma
 use Rattle.machine.specs.Laws.Unseen.{list-alike}
 
 -- the RAM is long enough for the sizes that the call's buffers are to be long enough for
-abbrev pub RamRoom : State → Call → Type 0
+abbrev RamRoom : State → Call → Type 0
 RamRoom m c = let z = sizesFor (m .sizes) c in z .frames * z .page ≤ length (m .ram)
 
 pub record Lawful (m : State) (c : Call) : Type 0 where
@@ -209,7 +209,7 @@ spared-shows m i x v (spanStored j y vs) a h =
     let page = inRun (pageOfAddress (m .sizes) j y) (spanPages (m .sizes) y (length vs)) (pageOfAddress (m .sizes) i x) in
     rw a (zero-not page (shows m i x) v h)
 
-step-leaves : (m : State) (c : Call) (i x v : ℕ) → Sound m → m .sizes .frames * m .sizes .page ≤ length (m .ram) → Address (m .sizes) i x
+step-leaves : (m : State) (c : Call) (i x v : ℕ) → Sound m → RamFits m → Address (m .sizes) i x
     → shows m i x ≡ some v → ends m i x c ≡ false
     → (shows (after m c) i x ≡ some v) × (after m c .sizes ≡ m .sizes)
 step-leaves m c i x v s room here h = go (isRefused (answer m c)) refl
@@ -241,9 +241,6 @@ alike m ram c = go (asked (m .sizes) c) refl
 
 -- ---- beginnings and histories
 
-pub none-some : {s : State} → _≡_ {A = Option State} none (some s) → ⊥
-none-some e = let w : _≡_ {A = ℕ} 0 1 = cc in omega arith
-
 -- what begins a state leaves it, with the RAM as it stood
 pub begins-so : (m s : State) (c : Call) → facts c .begins ≡ some s → accepted m c ≡ record { answer = done; after = withRam s (m .ram) }
 unfolding accepted
@@ -252,12 +249,12 @@ begins-so m s (start z l) e = ap (λ (o : Option State). record { answer = done;
     stateOr : Option State → State
     stateOr none = m
     stateOr (some n) = n
-begins-so m s (page p i b l) e = absurd (none-some e)
-begins-so m s free e = absurd (none-some e)
-begins-so m s (translate i x l) e = absurd (none-some e)
-begins-so m s (read i x n l) e = absurd (none-some e)
-begins-so m s (write i x vs l) e = absurd (none-some e)
-begins-so m s (list i room l) e = absurd (none-some e)
+begins-so m s (page p i b l) e = absurd (Option·none-ne-some s e)
+begins-so m s free e = absurd (Option·none-ne-some s e)
+begins-so m s (translate i x l) e = absurd (Option·none-ne-some s e)
+begins-so m s (read i x n l) e = absurd (Option·none-ne-some s e)
+begins-so m s (write i x vs l) e = absurd (Option·none-ne-some s e)
+begins-so m s (list i room l) e = absurd (Option·none-ne-some s e)
 
 -- an accepted start makes any state sound
 pub start-sound : (m : State) (z : Sizes) (l : Lent) → answer m (start z l) ≡ done → Sound (after m (start z l))
@@ -283,17 +280,17 @@ ram-long m m′ (pageMapped i b) c = c .1 .ram-size
 ram-long m m′ (regionEmptied i b) c = ap length (c .1)
 ram-long m m′ (spanStored i x vs) c = c .taken .ram-size
 
-pub step-ram-long : (m : State) (c : Call) → Sound m → length (after m c .ram) ≡ length (m .ram)
-step-ram-long m c s = ram-long m (after m c) (facts c .change) (may-change m c s)
+pub step-fits : (m : State) (c : Call) → Sound m → after m c .sizes ≡ m .sizes → RamFits m → RamFits (after m c)
+step-fits m c s same room =
+    omega (arith, room, ram-long m (after m c) (facts c .change) (may-change m c s), ap (λ (z : Sizes). z .frames * z .page) same)
 
 -- a byte that no call of the history ends
-pub history-leaves : (m : State) (cs : List Call) (i x v : ℕ) → Sound m → m .sizes .frames * m .sizes .page ≤ length (m .ram) → Address (m .sizes) i x
+pub history-leaves : (m : State) (cs : List Call) (i x v : ℕ) → Sound m → RamFits m → Address (m .sizes) i x
     → shows m i x ≡ some v → Spared m i x cs → (shows (afterAll m cs) i x ≡ some v) × (afterAll m cs .sizes ≡ m .sizes)
 unfolding Spared afterAll
 history-leaves m [] i x v s room here h p = (h, refl)
 history-leaves m (c ∷ cs) i x v s room here h p =
     let l = step-leaves m c i x v s room here h (p .0) in
-    let still : after m c .sizes .frames * after m c .sizes .page ≤ length (after m c .ram) =
-    omega (arith, step-ram-long m c s, ap (λ (z : Sizes). z .frames * z .page) (l .1)) in
-    let r = history-leaves (after m c) cs i x v (step-sound m c s) still (subst (λ (z : Sizes). Address z i x) (sym (l .1)) here) (l .0) (p .1) in
+    let still = subst (λ (z : Sizes). Address z i x) (sym (l .1)) here in
+    let r = history-leaves (after m c) cs i x v (step-sound m c s) (step-fits m c s (l .1) room) still (l .0) (p .1) in
     (r .0, r .1 ∙ l .1)

@@ -2,7 +2,7 @@
 -- address shows, give the same answers to the same calls and stay so.
 use mathlib.Core.Path.{_≡_, refl, sym, ap, ap₂, _∙_, subst}
 use mathlib.Core.Bool.{Bool, true, false, cond}
-use mathlib.Core.Option.{Option, none, some}
+use mathlib.Core.Option.{Option, none, some, Option·none-ne-some}
 use mathlib.Core.List.{List, [], _∷_}
 use Prim.Native.Nat.{ℕ, _+_, _-_, _<_}
 use native.Mathlib.Nat.{not-suc-le-zero}
@@ -16,7 +16,7 @@ use Rattle.machine.specs.Claims.{Sound, Address, isRefused, isStartAt, s
 use Rattle.machine.specs.Laws.Kept.{sound-stored}
 use Rattle.machine.specs.Laws.Pairs.{shows-none}
 use Rattle.machine.specs.Laws.Unseen.{Likewise, same-answer, same-addresses}
-use Rattle.machine.specs.Laws.Calls.{RoomFor, step-sound, step-shown, refusal-keeps, alike, none-some}
+use Rattle.machine.specs.Laws.Calls.{RoomFor, step-sound, step-shown, refusal-keeps, alike}
 
 -- with the RAM r every address shows the same
 abbrev pub SameShown : State → List ℕ → Type 0
@@ -60,7 +60,7 @@ shown-same m r i x h (spanStored j y vs) =
 abbrev pub Bare : State → Type 0
 Bare m = (a : ℕ) → region m a ≡ []
 
-pub bare-shows : (m : State) → Bare m → (i x : ℕ) → shows m i x ≡ none
+bare-shows : (m : State) → Bare m → (i x : ℕ) → shows m i x ≡ none
 bare-shows m bare i x =
     shows-none m i x
     (λ f h. not-suc-le-zero (subst (λ xs. h .entry .at < length xs) (bare (h .start)) (h .entry .inside)))
@@ -72,14 +72,14 @@ regionOr (some m) a = region m a
 -- every call that begins a state begins one in which no page is resident
 begins-bare : (c : Call) (s : State) → facts c .begins ≡ some s → Bare s
 begins-bare (start z l) s e = λ a. sym (ap (λ (o : Option State). regionOr o a) e) ∙ getD-same (places z) a []
-begins-bare (page p i b l) s e = absurd (none-some e)
-begins-bare free s e = absurd (none-some e)
-begins-bare (translate i x l) s e = absurd (none-some e)
-begins-bare (read i x n l) s e = absurd (none-some e)
-begins-bare (write i x vs l) s e = absurd (none-some e)
-begins-bare (list i room l) s e = absurd (none-some e)
+begins-bare (page p i b l) s e = absurd (Option·none-ne-some s e)
+begins-bare free s e = absurd (Option·none-ne-some s e)
+begins-bare (translate i x l) s e = absurd (Option·none-ne-some s e)
+begins-bare (read i x n l) s e = absurd (Option·none-ne-some s e)
+begins-bare (write i x vs l) s e = absurd (Option·none-ne-some s e)
+begins-bare (list i room l) s e = absurd (Option·none-ne-some s e)
 
-pub record SameStep (m : State) (r : List ℕ) (c : Call) : Type 0 where
+record SameStep (m : State) (r : List ℕ) (c : Call) : Type 0 where
   pub answer-same : answer (withRam m r) c ≡ answer m c
   pub after-same : after (withRam m r) c ≡ withRam (after m c) (after (withRam m r) c .ram)
   pub shown : SameShown (after m c) (after (withRam m r) c .ram)
@@ -109,7 +109,7 @@ module _ (m : State) (r : List ℕ) (c : Call) (s : Sound m) (same : SameShown m
       let there = subst (λ (z : Sizes). Address z i x) (d .0) here in
       d′ .1 i x there ∙ by-begins (facts c .begins) refl i x there ∙ sym (d .1 i x there)
 
-  pub same-step : SameStep m r c
+  same-step : SameStep m r c
   same-step =
       let states = alike m r c .states in
       record {
@@ -125,7 +125,7 @@ unfoldable pub AllRoom : State → List Call → Type 0
 AllRoom m [] = Unit {0}
 AllRoom m (c ∷ cs) = RoomFor m c × AllRoom (after m c) cs
 
-pub answers-same : (m : State) (r : List ℕ) (cs : List Call) → Sound m → SameShown m r → AllRoom m cs → AllRoom (withRam m r) cs
+answers-same : (m : State) (r : List ℕ) (cs : List Call) → Sound m → SameShown m r → AllRoom m cs → AllRoom (withRam m r) cs
     → answers (withRam m r) cs ≡ answers m cs
 unfolding answers AllRoom
 answers-same m r [] s same room room′ = refl

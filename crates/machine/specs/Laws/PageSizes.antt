@@ -1,8 +1,8 @@
 -- The nine page sizes as powers of two, for the loop that makes one.
 use mathlib.Core.Path.{_≡_, refl, sym, ap, _∙_}
 use mathlib.Core.Logic.{_≢_}
-use Prim.Native.Nat.{ℕ, _+_, _*_, _%_, _^_, _≤_, _<_}
-use native.Mathlib.Nat.{pow-suc, lt-of-not-le, not-le-of-lt, mod-eq-of-lt, one-mul}
+use Prim.Native.Nat.{ℕ, _+_, _*_, _^_, _≤_, _<_}
+use native.Mathlib.Nat.{pow-suc, lt-of-not-le, not-le-of-lt}
 use native.Mathlib.Numerals.{add-one}
 use native.Mathlib.Omega.{arith}
 use native.Mathlib.Decide.{ℕ-discrete}
@@ -58,7 +58,3 @@ unfolding pageSizeFor isPageSize
 none-made n power shift t h =
     let high = high-shift shift (let q = t .is in omega arith) in
     rw (any-clear (λ k. eqb n (2 ^ k)) 8 9 (λ k l g. ne-eqb n (2 ^ k) (t .none k l (omega arith))))
-
--- a one shifted within a word
-pub one-shifted : (k : ℕ) → k < 64 → 1 * 2 ^ k % 2 ^ 64 ≡ 2 ^ k
-one-shifted k h = rw one-mul (mod-eq-of-lt (pow-lt {j = 64} h))

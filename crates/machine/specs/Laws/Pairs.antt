@@ -1,63 +1,29 @@
 -- Which page holds which frame, told by the pairs alone: in a sound state a page is mapped to a frame exactly if the pair stands in some list.
 use mathlib.Core.Path.{_≡_, refl, sym, ap, _∙_, subst}
 use mathlib.Core.Logic.{_≢_}
-use mathlib.Core.Option.{Option, none, some, Option·none-ne-some}
+use mathlib.Core.Option.{Option, none, some}
 use mathlib.Core.List.{List, [], _∷_, _++_}
-use Prim.Native.Nat.{ℕ, _+_, _*_, _%_, _≤_, _<_}
-use native.Mathlib.Decide.{ℕ-discrete, decLt}
+use Prim.Native.Nat.{ℕ, _+_, _*_, _%_, _<_}
+use native.Mathlib.Decide.{ℕ-discrete}
 use native.Mathlib.Omega.{arith}
 use lib.ListN.{length, getD, length-append, List·getD-append}
 use lib.Seq.{getD-set-same, getD-set-other, getD-append-seam}
-use Rattle.sequence.specs.Sums.{sum, sum-at, sum-two, hit, hit-same, count-none}
+use Rattle.sequence.specs.Sums.{sum, hit, hit-same}
 use Rattle.machine.specs.Machine.{Sizes, State, Pair, region, startOf, frameIn, pageOfAddress, Page, outside, unmapped, mapped, pageOf, ramIn}
 use Rattle.machine.specs.Machine.{withPair, emptied}
-use Rattle.machine.specs.Claims.{Sound, noPair, timesFree, timesHeld, shownAt, shows}
+use Rattle.machine.specs.Claims.{Sound, noPair, shownAt, shows}
 use Rattle.machine.specs.Laws.Lookup.{Entry, frame-in, not-in, Mapped, is-mapped, mapped-is}
-use Rattle.machine.specs.Laws.Kept.{start-of-pair, start-below}
-use Rattle.machine.specs.Laws.Holders.{one-holder}
+use Rattle.machine.specs.Laws.Holders.{ram-mapped, at-most-once, entry-held, same-entry}
 
 -- the pair of place p and frame f stands in the list of the region at start
 pub record Holder (m : State) (p f : ℕ) : Type 0 where
   pub start : ℕ
   pub entry : Entry p f (region m start)
 
--- the frame of a page, if it is mapped
-abbrev pub heldBy : Page → Option ℕ
-heldBy outside = none
-heldBy (unmapped a) = none
-heldBy (mapped a f) = some f
-
 pub mapped-holder : (m : State) (p a f : ℕ) → Mapped m p a f → Holder m p f
 mapped-holder m p a f h = record { start = a; entry = frame-in p f (region m a) (h .frame-is) }
 
-pub held-holder : (m : State) (p f : ℕ) → heldBy (pageOf m p) ≡ some f → Holder m p f
-held-holder m p f = go (pageOf m p) refl
-  where
-    go : (x : Page) → pageOf m p ≡ x → heldBy x ≡ some f → Holder m p f
-    go outside e h = absurd (let w : _≡_ {A = ℕ} 0 1 = cc in omega arith)
-    go (unmapped a) e h = absurd (let w : _≡_ {A = ℕ} 0 1 = cc in omega arith)
-    go (mapped a g) e h = let same : g ≡ f = cc in rw same at (mapped-holder m p a g (is-mapped m p a g e))
-
 module _ (m : State) (s : Sound m) where
-  list-inside : (a j : ℕ) → j < length (region m a) → a < length (m .held)
-  list-inside a j l = omega (arith, s .held-are, start-below m s a (start-of-pair m s a j l))
-
-  -- a page stands once in its list
-  once-in : (p f g a : ℕ) → Entry p f (region m a) → Entry p g (region m a) → f ≡ g
-  once-in p f g a x y = elim (ℕ-discrete (x .at) (y .at)) [
-    | yes k ↦ ap (λ (r : Pair). r .frame) (sym (x .is) ∙ ap (λ (k : ℕ). getD (region m a) k noPair) k ∙ y .is)
-    | no k ↦
-        absurd
-        (omega (
-          arith,
-          s .once p,
-          sum-at (λ xs. sum (λ r. hit p (r .place)) xs) (m .held) a [] (list-inside a (x .at) (x .inside)),
-          sum-two (λ r. hit p (r .place)) (region m a) (x .at) (y .at) noPair (x .inside) (y .inside) k,
-          hit-same p _ (ap (λ (r : Pair). r .place) (x .is)),
-          hit-same p _ (ap (λ (r : Pair). r .place) (y .is)),
-        ))
-  ]
-
   pub holder-mapped : (p f : ℕ) → (h : Holder m p f) → Mapped m p (h .start) f
   holder-mapped p f h = go (frameIn p (region m (h .start))) refl
     where
@@ -66,57 +32,33 @@ module _ (m : State) (s : Sound m) where
       go (some g) e =
           record {
             region-is = ap (startOf m) (sym (ap (λ (r : Pair). r .place) (h .entry .is))) ∙ s .own (h .start) (h .entry .at) (h .entry .inside);
-            frame-is = e ∙ ap some (once-in p g f (h .start) (frame-in p g (region m (h .start)) e) (h .entry));
+            frame-is =
+                e
+                ∙ ap (λ (r : Pair). some (r .frame))
+                (same-entry m s (λ r. r .place) p (h .start) (s .once p) (frame-in p g (region m (h .start)) e) (h .entry) refl refl);
           }
-
-  pub holder-held : (p f : ℕ) → Holder m p f → heldBy (pageOf m p) ≡ some f
-  holder-held p f h = ap heldBy (mapped-is m p (h .start) f (holder-mapped p f h))
 
   -- a frame of the pool isn't held
   pub not-held : (f : ℕ) (rest : List ℕ) → m .pool ≡ f ∷ rest → (p g : ℕ) → Holder m p g → g ≢ f
   not-held f rest is p g h e =
-      let a = h .start in
-      let j = h .entry .at in
-      let few : timesFree f m + timesHeld f m ≤ 1 = elim (decLt f (m .sizes .frames)) [
-        | yes l ↦ omega (arith, one-holder m s f l)
-        | no l ↦ omega (arith, s .whole (hit f), count-none f (λ k. k) (m .sizes .frames) (λ k q. omega arith))
-      ] in
-      omega (
-        arith,
-        ap (sum (hit f)) is,
-        hit-same f f refl,
-        sum-at (λ xs. sum (λ x. hit f (x .frame)) xs) (m .held) a [] (list-inside a j (h .entry .inside)),
-        sum-at (λ x. hit f (x .frame)) (region m a) j noPair (h .entry .inside),
-        hit-same f (getD (region m a) j noPair .frame) (ap (λ (r : Pair). r .frame) (h .entry .is) ∙ e),
-      )
+      let held = entry-held m s (h .start) p f (subst (λ (c : ℕ). Entry p c (region m (h .start))) e (h .entry)) in
+      omega (arith, at-most-once m s f, ap (sum (hit f)) is, hit-same f f refl, held)
 
 -- ---- what an address shows, by who holds which frame
-
--- the byte of a frame at address x, if there is a frame
-abbrev seen : ℕ → ℕ → List ℕ → Option ℕ → Option ℕ
-seen page x ram none = none
-seen page x ram (some f) = some (getD ram (f * page + x % page) 0)
-
-pub shows-by : (m : State) (i x : ℕ) → shows m i x ≡ seen (m .sizes .page) x (m .ram) (heldBy (pageOf m (pageOfAddress (m .sizes) i x)))
-shows-by m i x = go (pageOf m (pageOfAddress (m .sizes) i x))
-  where
-    go : (g : Page) → shownAt (m .ram) (ramIn (m .sizes) x g) ≡ seen (m .sizes .page) x (m .ram) (heldBy g)
-    go outside = refl
-    go (unmapped a) = refl
-    go (mapped a f) = refl
 
 -- the page of the address holds this frame
 pub shows-held : (m : State) → Sound m → (i x f : ℕ) → Holder m (pageOfAddress (m .sizes) i x) f
     → shows m i x ≡ some (getD (m .ram) (f * m .sizes .page + x % m .sizes .page) 0)
-shows-held m s i x f h = shows-by m i x ∙ ap (seen (m .sizes .page) x (m .ram)) (holder-held m s _ f h)
+shows-held m s i x f h = ap (shownAt (m .ram)) (ram-mapped m i x (h .start) f (holder-mapped m s _ f h))
 
 -- or none
 pub shows-none : (m : State) (i x : ℕ) → ((f : ℕ) → Holder m (pageOfAddress (m .sizes) i x) f → ⊥) → shows m i x ≡ none
-shows-none m i x nobody = shows-by m i x ∙ go (heldBy (pageOf m (pageOfAddress (m .sizes) i x))) refl
+shows-none m i x nobody = go (pageOf m (pageOfAddress (m .sizes) i x)) refl
   where
-    go : (o : Option ℕ) → heldBy (pageOf m (pageOfAddress (m .sizes) i x)) ≡ o → seen (m .sizes .page) x (m .ram) o ≡ none
-    go none e = refl
-    go (some f) e = absurd (nobody f (held-holder m _ f e))
+    go : (g : Page) → pageOf m (pageOfAddress (m .sizes) i x) ≡ g → shownAt (m .ram) (ramIn (m .sizes) x g) ≡ none
+    go outside e = refl
+    go (unmapped a) e = refl
+    go (mapped a f) e = absurd (nobody f (mapped-holder m _ a f (is-mapped m _ a f e)))
 
 -- the same pair, and the same byte in its frame: the same is shown
 module _ (m m′ : State) (s : Sound m) (s′ : Sound m′) (i x : ℕ) (z : m′ .sizes ≡ m .sizes) where
@@ -128,17 +70,21 @@ module _ (m m′ : State) (s : Sound m) (s′ : Sound m′) (i x : ℕ) (z : m�
 
   pub shows-same : ((f : ℕ) → Holder m p f → Holder m′ p f × (byteOf (m′ .ram) f ≡ byteOf (m .ram) f)) → ((f : ℕ) → Holder m′ p f → Holder m p f)
       → shows m′ i x ≡ shows m i x
-  shows-same to from = go (heldBy (pageOf m p)) refl
+  shows-same to from = go (pageOf m p) refl
     where
       back : (f : ℕ) → Holder m′ (pageOfAddress (m′ .sizes) i x) f → Holder m′ p f
       back f = subst (λ (y : Sizes). Holder m′ (pageOfAddress y i x) f) z
 
-      go : (o : Option ℕ) → heldBy (pageOf m p) ≡ o → shows m′ i x ≡ shows m i x
-      go none e =
-          shows-none m′ i x (λ f h. Option·none-ne-some f (sym e ∙ holder-held m s p f (from f (back f h))))
-          ∙ sym (shows-by m i x ∙ ap (seen (m .sizes .page) x (m .ram)) e)
-      go (some f) e =
-          let h = held-holder m p f e in
+      nobody : {g : Page} → pageOf m p ≡ g → ((a f : ℕ) → g ≡ mapped a f → ⊥) → shows m′ i x ≡ shows m i x
+      nobody e hidden =
+          let none-holds : (f : ℕ) → Holder m p f → ⊥ = λ f h. hidden (h .start) f (sym e ∙ mapped-is m p (h .start) f (holder-mapped m s p f h)) in
+          shows-none m′ i x (λ f h. none-holds f (from f (back f h))) ∙ sym (shows-none m i x none-holds)
+
+      go : (g : Page) → pageOf m p ≡ g → shows m′ i x ≡ shows m i x
+      go outside e = nobody e (λ a f q. absurd (let w : _≡_ {A = ℕ} 0 1 = cc in omega arith))
+      go (unmapped b) e = nobody e (λ a f q. absurd (let w : _≡_ {A = ℕ} 0 1 = cc in omega arith))
+      go (mapped a f) e =
+          let h = mapped-holder m p a f (is-mapped m p a f e) in
           shows-held m′ s′ i x f (subst (λ (y : Sizes). Holder m′ (pageOfAddress y i x) f) (sym z) (to f h .0))
           ∙ ap (λ (y : Sizes). some (getD (m′ .ram) (f * y .page + x % y .page) 0)) z
           ∙ ap some (to f h .1)

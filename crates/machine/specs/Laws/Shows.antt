@@ -1,6 +1,6 @@
 -- What each address shows after each call: one law a call.
 use mathlib.Core.Path.{_≡_, refl, sym, ap, ap₂, _∙_, subst}
-use mathlib.Core.Bool.{Bool, true, false, cond, _&&_, _||_, false≢true}
+use mathlib.Core.Bool.{Bool, true, false, cond, _||_, false≢true}
 use mathlib.Core.Option.{Option, none, some}
 use mathlib.Core.List.{List, [], _∷_}
 use Prim.Native.Nat.{ℕ, zero, suc, _+_, _-_, _*_, _/_, _%_, _≤_, _<_}
@@ -11,20 +11,20 @@ use borrow.Author.Tests.{eq-eqb, ne-eqb, eqb-true, eqb-false, leb-true, ltb-true
 use lib.Dec.{eqb, leb, ltb}
 use lib.ListN.{length, getD}
 use Rattle.places.specs.Laws.{div-mono}
-use Rattle.machine.specs.Machine.{Sizes, spaceBytes, pageOfAddress, spanPages, State, isStart, Page, outside, unmapped, mapped, pageOf, ramAt}
+use Rattle.machine.specs.Machine.{Sizes, spaceBytes, pageOfAddress, spanPages, State, isStart, Page, outside, unmapped, mapped, pageOf, ramIn, ramAt}
 use Rattle.machine.specs.Machine.{startOf, wordsAt, Out, spanStored, withPair, cleared, touchNew, touchPage, touchAt, touchAll, emptied, releaseAt}
 use Rattle.machine.specs.Machine.{isOutside, anyOutside, isUnmapped, countAbsent, stored, storeAll, spanTouched, spanOutside, spanShort, writeIf}
-use Rattle.machine.specs.Claims.{Sound, Address, Same, isRefused, isStartAt, shownAt, shows, orZero, inRun, inSpan, showsBy, OneStart}
+use Rattle.machine.specs.Claims.{Sound, Address, Same, RamFits, isRefused, isStartAt, shownAt, shows, orZero, inRun, inSpan, showsBy, OneStart}
 use Rattle.machine.specs.Laws.Sizes.{both, fit, some-bytes}
-use Rattle.machine.specs.Laws.Lookup.{is-mapped, is-unmapped, mapped-is}
-use Rattle.machine.specs.Laws.Kept.{start-below, sound-paired, sound-emptied, sound-stored}
+use Rattle.machine.specs.Laws.Lookup.{is-unmapped}
+use Rattle.machine.specs.Laws.Kept.{start-held, sound-paired, sound-emptied, sound-stored}
 use Rattle.machine.specs.Laws.Steps.{sound-touched, sound-all-touched}
 use Rattle.machine.specs.Laws.Holders.{ram-mapped, ram-below, same-byte}
 use Rattle.machine.specs.Laws.Zeroed.{zeroed-in, zeroed-out}
-use Rattle.machine.specs.Laws.Pairs.{Holder, mapped-holder, holder-mapped, not-held, shows-held, shows-none, shows-same, new-holder, old-holder}
+use Rattle.machine.specs.Laws.Pairs.{Holder, holder-mapped, not-held, shows-held, shows-none, shows-same, new-holder, old-holder}
 use Rattle.machine.specs.Laws.Pairs.{was-holder, kept-holder, left-holder}
-use Rattle.machine.specs.Laws.Stays.{held-inside, Grown, grown-touched, grown-all-touched, IsMapped, touch-maps, any-outside-same, absent-less, or-false}
-use Rattle.machine.specs.Laws.Stays.{span-mapped}
+use Rattle.machine.specs.Laws.Stays.{held-inside, Grown, grown-fits, grown-touched, grown-all-touched, IsMapped, touch-maps, any-outside-same}
+use Rattle.machine.specs.Laws.Stays.{absent-less, or-false, span-mapped}
 use Rattle.machine.specs.Laws.Storing.{stored-other, stored-at}
 
 module _ (m : State) (s : Sound m) (i x : ℕ) where
@@ -42,6 +42,10 @@ module _ (m : State) (s : Sound m) (i x : ℕ) where
 
   pub shows-started : {p : ℕ} (m′ : State) → Sound m′ → OneStart p m m′ → shows m′ i x ≡ shows m i x
   shows-started m′ s′ c = same-pairs m′ s′ (c .sizes) (c .held) (c .ram)
+
+  -- by what the page of the address is
+  shows-page : (q : ℕ) (g : Page) → pageOf m q ≡ g → pageOfAddress (m .sizes) i x ≡ q → shows m i x ≡ shownAt (m .ram) (ramIn (m .sizes) x g)
+  shows-page q g is e = ap (λ (y : Page). shownAt (m .ram) (ramIn (m .sizes) x y)) (ap (pageOf m) e ∙ is)
 
   -- ---- touch
 
@@ -66,20 +70,12 @@ module _ (m : State) (s : Sound m) (i x : ℕ) where
     from : (p g : ℕ) → Holder after p g → Holder (withPair m a q f rest) p g
     from p g h = record { start = h .start; entry = h .entry }
 
-    absent-shows : pageOfAddress (m .sizes) i x ≡ q → shows m i x ≡ none
-    absent-shows e =
-        shows-none m i x
-        (λ g h. unmapped-mapped (sym absent ∙ mapped-is m q (h .start) g (holder-mapped m s q g (subst (λ (p : ℕ). Holder m p g) e h))))
-      where
-        unmapped-mapped : {b c g : ℕ} → unmapped b ≡ mapped c g → ⊥
-        unmapped-mapped e = let w : _≡_ {A = ℕ} 0 1 = cc in omega arith
-
     mapped-shows : (t : Bool) → eqb (pageOfAddress (m .sizes) i x) q ≡ t → shows after i x ≡ orZero t (shows m i x)
     mapped-shows true t =
         let e = eqb-true (pageOfAddress (m .sizes) i x) q t in
         shows-held after sound-after i x f (subst (λ (p : ℕ). Holder after p f) (sym e) (to q f (new-holder m q a f rest inside)))
         ∙ ap some (zeroed-in (m .sizes) f (m .ram) (x % m .sizes .page) offset)
-        ∙ sym (ap (orZero true) (absent-shows e))
+        ∙ sym (ap (orZero true) (shows-page q (unmapped a) absent e))
     mapped-shows false t =
         let d = eqb-false (pageOfAddress (m .sizes) i x) q t in
         shows-same m after s sound-after i x refl
@@ -94,8 +90,7 @@ module _ (m : State) (s : Sound m) (i x : ℕ) where
       → shows m i x ≡ orZero t (shows m i x)
   resident-shows q a f e false t = refl
   resident-shows q a f e true t =
-      let here = subst (λ (p : ℕ). Holder m p f) (sym (eqb-true (pageOfAddress (m .sizes) i x) q t)) (mapped-holder m q a f (is-mapped m q a f e)) in
-      let v = shows-held m s i x f here in
+      let v = shows-page q (mapped a f) e (eqb-true (pageOfAddress (m .sizes) i x) q t) in
       v ∙ sym (ap (orZero true) v)
 
   pub touched-shows : (q w : ℕ)
@@ -118,20 +113,17 @@ module _ (m : State) (s : Sound m) (i x : ℕ) where
     abbrev p : ℕ
     p = pageOfAddress (m .sizes) i x
 
-    region-inside : a < length (m .held)
-    region-inside = omega (arith, s .held-are, start-below m s a is)
-
     start-is : (f : ℕ) → (h : Holder m p f) → isStartAt (startOf m p) a ≡ eqb a (h .start)
     start-is f h = ap (λ (o : Option ℕ). isStartAt o a) (holder-mapped m s p f h .region-is)
 
     emptied-shows : (t : Bool) → isStartAt (startOf m p) a ≡ t → shows (emptied m a) i x ≡ cond t none (shows m i x)
     emptied-shows true t =
         shows-none (emptied m a) i x
-        (λ f h. let l = left-holder m a region-inside p f h in l .1 (sym (eqb-true a (l .0 .start) (sym (start-is f (l .0)) ∙ t))))
+        (λ f h. let l = left-holder m a (start-held m s a is) p f h in l .1 (sym (eqb-true a (l .0 .start) (sym (start-is f (l .0)) ∙ t))))
     emptied-shows false t =
         shows-same m (emptied m a) s (sound-emptied m s a is) i x refl
-        (λ f h. (kept-holder m a region-inside p f h (λ q. eqb-false a (h .start) (sym (start-is f h) ∙ t) (sym q)), refl))
-        (λ f h. left-holder m a region-inside p f h .0)
+        (λ f h. (kept-holder m a (start-held m s a is) p f h (λ q. eqb-false a (h .start) (sym (start-is f h) ∙ t) (sym q)), refl))
+        (λ f h. left-holder m a (start-held m s a is) p f h .0)
 
   pub released-shows : (a : ℕ) (b : Bool) → isStart m a ≡ b
       → ShownAfter (cond (isStartAt (startOf m (pageOfAddress (m .sizes) i x)) a) none (shows m i x)) (releaseAt m a b)
@@ -182,7 +174,7 @@ touch-accepted m q w = go (pageOf m q)
         new-one (f ∷ rest) l = refl
     go (mapped a f) o l = refl
 
-pub all-touched-shows : (m : State) (q k : ℕ) → Sound m → anyOutside m q k ≡ false → countAbsent m q k ≤ length (m .pool) → (i x : ℕ)
+all-touched-shows : (m : State) (q k : ℕ) → Sound m → anyOutside m q k ≡ false → countAbsent m q k ≤ length (m .pool) → (i x : ℕ)
     → shows (touchAll m q k) i x ≡ orZero (inRun q k (pageOfAddress (m .sizes) i x)) (shows m i x)
 unfolding touchAll anyOutside countAbsent
 all-touched-shows m q zero s o l i x = sym (ap (λ (t : Bool). orZero t (shows m i x)) (run-none q (pageOfAddress (m .sizes) i x)))
@@ -203,7 +195,7 @@ all-touched-shows m q (suc k) s o l i x =
 -- ---- bytes stored
 
 -- an address that isn't in the span shows what it did
-pub else-shows : (m : State) → Sound m → (i x j y : ℕ) (vs : List ℕ) → Address (m .sizes) i x → j < m .sizes .spaces
+else-shows : (m : State) → Sound m → (i x j y : ℕ) (vs : List ℕ) → Address (m .sizes) i x → j < m .sizes .spaces
     → y + length vs ≤ spaceBytes (m .sizes) → inSpan i x j y (length vs) ≡ false → shows (storeAll m j y vs) i x ≡ shows m i x
 else-shows m s i x j y vs here in-space fits apart = go (ramAt m i x) refl
   where
@@ -220,8 +212,8 @@ else-shows m s i x j y vs here in-space fits apart = go (ramAt m i x) refl
         false≢true (sym apart ∙ in-span k l same)))
 
 -- the byte of the one address that has it
-pub span-shows : (m : State) → Sound m → (x j y : ℕ) (vs : List ℕ) → j < m .sizes .spaces → y + length vs ≤ spaceBytes (m .sizes)
-    → IsMapped m (pageOfAddress (m .sizes) j x) → m .sizes .frames * m .sizes .page ≤ length (m .ram) → y ≤ x → x < y + length vs
+span-shows : (m : State) → Sound m → (x j y : ℕ) (vs : List ℕ) → j < m .sizes .spaces → y + length vs ≤ spaceBytes (m .sizes)
+    → IsMapped m (pageOfAddress (m .sizes) j x) → RamFits m → y ≤ x → x < y + length vs
     → shows (storeAll m j y vs) j x ≡ some (getD vs (x - y) 0)
 span-shows m s x j y vs in-space fits t room low high =
     let q = t .frame * m .sizes .page + x % m .sizes .page in
@@ -244,9 +236,21 @@ in-pages z j y (suc n) x pos l h =
     let b : x / z .page ≤ (y + n) / z .page = div-mono pos (omega arith) in
     (x / z .page - y / z .page, omega arith, omega arith)
 
+-- so it is mapped once the span is touched
+pub address-mapped : (m : State) → Sound m → (j y n x : ℕ) → spanOutside m j y n ≡ false
+    → countAbsent m (pageOfAddress (m .sizes) j y) (spanPages (m .sizes) y n) ≤ length (m .pool) → y ≤ x → x < y + n
+    → IsMapped (spanTouched m j y n) (pageOfAddress (spanTouched m j y n .sizes) j x)
+address-mapped m s j y n x inside few low high =
+    let z = m .sizes in
+    let p = pageOfAddress z j y in
+    let q = spanPages z y n in
+    let k = in-pages z j y n x (some-bytes z (fit z (s .sizes-ok))) low high in
+    subst (IsMapped (spanTouched m j y n)) (k .2 ∙ ap (λ (u : Sizes). pageOfAddress u j x) (sym (grown-all-touched m p q s .sizes-same)))
+    (span-mapped m p q s inside few (k .0) (k .1))
+
 module _ (m : State) (s : Sound m) (i x j y : ℕ) (vs : List ℕ) (here : Address (m .sizes) i x) (in-space : j < m .sizes .spaces)
     (fits : y + length vs ≤ spaceBytes (m .sizes))
-    (room : inSpan i x j y (length vs) ≡ true → m .sizes .frames * m .sizes .page ≤ length (m .ram)) where
+    (room : inSpan i x j y (length vs) ≡ true → RamFits m) where
   abbrev z : Sizes
   z = m .sizes
 
@@ -274,15 +278,13 @@ module _ (m : State) (s : Sound m) (i x j y : ℕ) (vs : List ℕ) (here : Addre
         ∙ all-touched-shows m first n s inside few i x
     stored-shows true t =
         let same = g .sizes-same in
-        let c = both (eqb i j && leb y x) (ltb x (y + length vs)) t in
-        let d = both (eqb i j) (leb y x) (c .0) in
-        let low = leb-true y x (d .1) in
-        let high = ltb-true x (y + length vs) (c .1) in
-        let k = in-pages z j y (length vs) x (some-bytes z (fit z (s .sizes-ok))) low high in
-        let on = subst (IsMapped m₁) (k .2 ∙ ap (λ (u : Sizes). pageOfAddress u j x) (sym same)) (span-mapped m first n s inside few (k .0) (k .1)) in
-        let enough : m₁ .sizes .frames * m₁ .sizes .page ≤ length (m₁ .ram) =
-        omega (arith, room t, g .ram-size, ap (λ (u : Sizes). u .frames * u .page) same) in
-        ap (λ (h : ℕ). shows (storeAll m₁ j y vs) h x) (eqb-true i j (d .0)) ∙ span-shows m₁ s₁ x j y vs (rw same in-space) (rw same fits) on enough low high
+        let c = both (eqb i j) (inRun y (length vs) x) t in
+        let d = both (leb y x) (ltb x (y + length vs)) (c .1) in
+        let low = leb-true y x (d .0) in
+        let high = ltb-true x (y + length vs) (d .1) in
+        let on = address-mapped m s j y (length vs) x inside few low high in
+        ap (λ (h : ℕ). shows (storeAll m₁ j y vs) h x) (eqb-true i j (c .0))
+        ∙ span-shows m₁ s₁ x j y vs (rw same in-space) (rw same fits) on (grown-fits g (room t)) low high
 
   pub written-shows : (a b : Bool) → spanOutside m j y (length vs) ≡ a → spanShort m j y (length vs) ≡ b
       → ShownAfter m s i x (showsBy m i x (spanStored j y vs)) (writeIf m j y vs a b)

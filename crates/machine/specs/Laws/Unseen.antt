@@ -43,26 +43,6 @@ module _ (ram : List ℕ) where
       (record { start = b; length = suc (untilStart (isStart m) (suc p) n); resident = length (region m p) } ∷ rest) rest)
       (records-any m lo (suc b) n)
 
--- touching changes the RAM, and the rest alike
-new-any : (m : State) (ram : List ℕ) (a p w : ℕ) (pool : List ℕ)
-    → touchNew (withRam m ram) a p w pool .after ≡ withRam (touchNew m a p w pool .after) (touchNew (withRam m ram) a p w pool .after .ram)
-new-any m ram a p w [] = refl
-new-any m ram a p w (f ∷ rest) = refl
-
-touch-any : (m : State) (ram : List ℕ) (p w : ℕ) (x : Page)
-    → touchPage (withRam m ram) p w x .after ≡ withRam (touchPage m p w x .after) (touchPage (withRam m ram) p w x .after .ram)
-touch-any m ram p w outside = refl
-touch-any m ram p w (unmapped a) = new-any m ram a p w (m .pool)
-touch-any m ram p w (mapped a f) = refl
-
-pub touched-any : (m : State) (ram : List ℕ) (p k : ℕ) → touchAll (withRam m ram) p k ≡ withRam (touchAll m p k) (touchAll (withRam m ram) p k .ram)
-unfolding touchAll
-touched-any m ram p zero = refl
-touched-any m ram p (suc k) =
-    let r = touchAt (withRam m ram) p .after .ram in
-    let e = ap (λ (x : State). touchAll x (suc p) k) (touch-any m ram p (wordsAt m p) (pageOf m p)) in
-    e ∙ touched-any (touchAt m p .after) r (suc p) k ∙ ap (λ (x : State). withRam (touchAll m p (suc k)) (x .ram)) (sym e)
-
 -- ---- each call
 
 -- the same answer, or the bytes of the same addresses
@@ -113,9 +93,19 @@ module _ (m : State) (ram : List ℕ) where
   release-alike a false = told-alike _
   release-alike a true = record { answers = same-answer; states = refl }
 
+-- touching changes the RAM, and the rest alike
+touched-any : (m : State) (ram : List ℕ) (p k : ℕ) → touchAll (withRam m ram) p k ≡ withRam (touchAll m p k) (touchAll (withRam m ram) p k .ram)
+unfolding touchAll
+touched-any m ram p zero = refl
+touched-any m ram p (suc k) =
+    let r = touchAt (withRam m ram) p .after .ram in
+    let e = ap (λ (x : State). touchAll x (suc p) k) (touch-alike m ram p (wordsAt m p) (pageOf m p) .states) in
+    e ∙ touched-any (touchAt m p .after) r (suc p) k ∙ ap (λ (x : State). withRam (touchAll m p (suc k)) (x .ram)) (sym e)
+
+module _ (m : State) (ram : List ℕ) where
   written : (i x : ℕ) (vs : List ℕ) (a b : Bool) → Alike (withRam m ram) m (writeIf (withRam m ram) i x vs a b) (writeIf m i x vs a b)
-  written i x vs true b = told-alike _
-  written i x vs false true = told-alike _
+  written i x vs true b = told-alike m ram _
+  written i x vs false true = told-alike m ram _
   written i x vs false false =
       let m₁ = spanTouched m i x (length vs) in
       let e = ap (λ (y : State). storeAll y i x vs) (touched-any m ram (pageOfAddress (m .sizes) i x) (spanPages (m .sizes) x (length vs))) in
@@ -130,7 +120,7 @@ module _ (m : State) (ram : List ℕ) where
     where
       go : (k : ℕ) → Alike (withRam m ram) m (tell (withRam m ram) (readIf (withRam m ram) i x n k)) (tell m (readIf m i x n k))
       go zero = record { answers = same-addresses i x n inside; states = refl }
-      go (suc k) = told-alike _
+      go (suc k) = told-alike m ram _
 
   pub write-alike : (i x : ℕ) (vs : List ℕ) → Alike (withRam m ram) m (writeAt (withRam m ram) i x vs) (writeAt m i x vs)
   write-alike i x vs =
@@ -143,4 +133,4 @@ module _ (m : State) (ram : List ℕ) where
   pub list-alike : (i room : ℕ)
       → let rs = recordsOf (withRam m ram) i in
       Alike (withRam m ram) m (tell (withRam m ram) (listIf rs (leb (length rs) room))) (tell m (listIf (recordsOf m i) (leb (length (recordsOf m i)) room)))
-  list-alike i room = rw (records-any ram m (placeOf (m .sizes) i 0) 0 (m .sizes .pages)) (told-alike _)
+  list-alike i room = rw (records-any ram m (placeOf (m .sizes) i 0) 0 (m .sizes .pages)) (told-alike m ram _)

@@ -6,6 +6,7 @@ use Prim.Native.Nat.{ℕ, zero, suc, _+_, _*_, _/_, _%_, _≤_, _<_}
 use native.Mathlib.Nat.{mul-le-mul-right, mod-lt, div-add-mod'}
 use native.Mathlib.Decide.{ℕ-discrete, decLt}
 use native.Mathlib.Omega.{arith}
+use lib.Arith.{digits-div}
 use lib.ListN.{length, getD, set, drop, replicate, length-set, length-replicate, List·getD-eq-default}
 use lib.Seq.{sets, length-sets, getD-set-same, getD-set-other, drop-set-lt, set-append-left}
 use Rattle.machine.specs.Machine.{Sizes, zeroed}
@@ -32,7 +33,7 @@ sets-zero (suc n) l i q a b = elim (ℕ-discrete q i) [
   | no d ↦ sets-zero n (set l i 0) (suc i) q (omega arith) (omega arith)
 ]
 
-pub drop-sets : (n : ℕ) (ws : List ℕ) (q : ℕ) (vs : List ℕ) → q + length vs ≤ n → drop n (sets ws q vs) ≡ drop n ws
+drop-sets : (n : ℕ) (ws : List ℕ) (q : ℕ) (vs : List ℕ) → q + length vs ≤ n → drop n (sets ws q vs) ≡ drop n ws
 drop-sets n ws q [] h = refl
 drop-sets n ws q (v ∷ vs) h = drop-sets n (set ws q v) (suc q) vs (omega arith) ∙ drop-set-lt n ws q v (omega arith)
 
@@ -45,6 +46,17 @@ sets-front part rest i (v ∷ vs) h =
 
 -- ---- a frame's bytes
 
+-- a place of another frame lies before this one or past it
+pub frame-apart : (n p f : ℕ) → 0 < n → p / n ≢ f → (p < f * n) ⊎ (suc f * n ≤ p)
+frame-apart n p f pos d = go (decLt (p / n) f)
+  where
+    place : p / n * n + p % n ≡ p
+    place = div-add-mod' p n
+
+    go : Dec (p / n < f) → (p < f * n) ⊎ (suc f * n ≤ p)
+    go (yes l) = inl (omega (arith, place, mod-lt p pos, mul-le-mul-right n l))
+    go (no l) = let up : suc f ≤ p / n = omega arith in inr (omega (arith, place, mul-le-mul-right n up))
+
 module _ (z : Sizes) (f : ℕ) (ram : List ℕ) where
   pub length-zeroed : length (zeroed z f ram) ≡ length ram
   unfolding zeroed
@@ -54,22 +66,16 @@ module _ (z : Sizes) (f : ℕ) (ram : List ℕ) where
   unfolding zeroed
   zeroed-in o l = sets-zero (z .page) ram (f * z .page) (f * z .page + o) (omega arith) (omega arith)
 
-  -- a byte of another frame
-  pub zeroed-out : (g o : ℕ) → g ≢ f → o < z .page → getD (zeroed z f ram) (g * z .page + o) 0 ≡ getD ram (g * z .page + o) 0
-  unfolding zeroed
-  zeroed-out g o d l = sets-out (replicate (z .page) 0) ram (f * z .page) (g * z .page + o) (go (decLt g f))
-    where
-      go : Dec (g < f) → (g * z .page + o < f * z .page) ⊎ (f * z .page + length {A = ℕ} (replicate (z .page) 0) ≤ g * z .page + o)
-      go (yes h) = inl (omega (arith, mul-le-mul-right (z .page) h))
-      go (no h) = let up : suc f ≤ g = omega arith in inr (omega (arith, mul-le-mul-right (z .page) up, length-replicate {A = ℕ} (z .page) 0))
-
-  -- the same by its place
+  -- a byte of another frame, by its place
   pub zeroed-else : (p : ℕ) → 0 < z .page → p / z .page ≢ f → getD (zeroed z f ram) p 0 ≡ getD ram p 0
+  unfolding zeroed
   zeroed-else p pos d =
-      let is : p / z .page * z .page + p % z .page ≡ p = div-add-mod' p (z .page) in
-      ap (λ (q : ℕ). getD (zeroed z f ram) q 0) (sym is)
-      ∙ zeroed-out (p / z .page) (p % z .page) d (mod-lt p pos)
-      ∙ ap (λ (q : ℕ). getD ram q 0) is
+      sets-out (replicate (z .page) 0) ram (f * z .page) p
+      (⊎-elim inl (λ l. inr (omega (arith, length-replicate {A = ℕ} (z .page) 0))) (frame-apart (z .page) p f pos d))
+
+  -- and by its frame and offset
+  pub zeroed-out : (g o : ℕ) → g ≢ f → o < z .page → getD (zeroed z f ram) (g * z .page + o) 0 ≡ getD ram (g * z .page + o) 0
+  zeroed-out g o d l = zeroed-else (g * z .page + o) (omega arith) (λ e. d (sym (digits-div g {m = z .page} l) ∙ e))
 
   -- bytes past the frames
   pub zeroed-beyond : f < z .frames → drop (z .frames * z .page) (zeroed z f ram) ≡ drop (z .frames * z .page) ram

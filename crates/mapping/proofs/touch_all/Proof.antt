@@ -1,17 +1,17 @@
 -- Each turn touches the next page by touch's own promise, and clears its frame around the span if it is new; what the checks showed stays.
-use mathlib.Core.Path.{_≡_, refl, ap, _∙_}
-use Prim.Native.Nat.{ℕ, _+_, _-_, _*_, _/_, _%_, _≤_, _<_}
-use native.Mathlib.Nat.{mod-lt}
+use mathlib.Core.Path.{_≡_, ap}
+use Prim.Native.Nat.{ℕ, _+_, _-_, _*_, _%_, _≤_, _<_}
 use native.Mathlib.Omega.{arith}
-use lib.ListN.{length}
 use Rattle.machine.specs.declared.Touched.the-variants.{New}
-use Rattle.machine.specs.Machine.{Sizes, Lent, placeOf}
+use Rattle.machine.specs.Machine.{Sizes, Lent}
 use Rattle.machine.specs.Laws.Sizes.{fit, page-below, place-below}
-use Rattle.memory.specs.Memory.{Memory, memory, withBytes, sizesOf, lengths}
+use Rattle.memory.specs.Memory.{Memory, memory, withBytes, sizesOf}
 use Rattle.spans.specs.Shifted.{some-page, space-small}
+use Rattle.spans.specs.PartLaws.{some-next, next-fits}
 use Rattle.paging.specs.Fits.{Touchable, RamLong}
 use Rattle.paging.specs.Touches.{still-touchable, new-below}
-use Rattle.mapping.proofs.Touching.{SoFar, touched-none, same-sizes, same-lengths, ram-length, touched-all, fits, touched-more}
+use Rattle.mapping.specs.Spans.{span-sizes, span-lengths, span-ram}
+use Rattle.mapping.proofs.Touching.{SoFar, touched-none, touched-all, touched-more}
 use Rattle.mapping.proofs.touch_all.Statement.{statement}
 use Rattle.mapping.proofs.touch_all.Tie as tie
 
@@ -80,12 +80,12 @@ touchable : (c : tie.After-page-of Inv-loop μ-loop)
 touchable c =
     let t = c .before .before in
     let f = so-far t in
-    still-touchable (lent (entry t)) (withBytes (turn t) (f .zeros)) (same-sizes f) (same-lengths f) (entry t .pre .1 _ (page-low c))
+    still-touchable (lent (entry t)) (withBytes (turn t) (f .span .zeros)) (span-sizes (f .span)) (span-lengths (f .span)) (entry t .pre .1 _ (page-low c))
 
-ram-long : (t : tie.In-loop Inv-loop μ-loop) → RamLong (t .before .loop .after) (so-far t .zeros)
+ram-long : (t : tie.In-loop Inv-loop μ-loop) → RamLong (t .before .loop .after) (so-far t .span .zeros)
 ram-long t =
     let f = so-far t in
-    omega (arith, entry t .pre .0 .ram-long, ap (λ (z : Sizes). z .frames * z .page) (same-sizes f), ap (λ (l : Lent). l .ram) (same-lengths f))
+    omega (arith, entry t .pre .0 .ram-long, ap (λ (z : Sizes). z .frames * z .page) (span-sizes (f .span)), ap (λ (l : Lent). l .ram) (span-lengths (f .span)))
 
 loop-holds : tie.Need-loop-holds Inv-loop μ-loop
 loop-holds c =
@@ -117,14 +117,14 @@ below c f w is =
     let t = paged c .before .before in
     omega (
       arith,
-      new-below _ _ (withBytes (turn t) (so-far t .zeros)) _ _ (c .touch-checked .ensures .0 (so-far t .zeros) (ram-long t)) f w is,
-      ap (λ (z : Sizes). z .frames) (same-sizes (so-far t)),
+      new-below _ _ (withBytes (turn t) (so-far t .span .zeros)) _ _ (c .touch-checked .ensures .0 (so-far t .span .zeros) (ram-long t)) f w is,
+      ap (λ (z : Sizes). z .frames) (span-sizes (so-far t .span)),
     )
 
 part-fits : (c : tie.After-part Inv-loop μ-loop)
     → let s = entry (c .before) in
     (s .args .address + c .before .before .loop .done) % sizesOf (s .args .head) .page + c .part .result ≤ sizesOf (s .args .head) .page
-part-fits c = let t = c .before in fits (so-far t) (t .loop-test .taken) (pos t) (c .part .result) (c .part .ensures) _ refl
+part-fits c = let t = c .before in next-fits (sizesOf (entry t .args .head)) _ _ _ _ (pos t) (t .loop-test .taken) (c .part .ensures)
 
 clear-new-requires : tie.Need-clear-new-requires Inv-loop μ-loop
 clear-new-requires c κs =
@@ -136,7 +136,7 @@ clear-new-requires c κs =
           record {
             sizes-ok = s .pre .0 .sizes-ok;
             below = below u f w is;
-            ram-long = omega (arith, s .pre .0 .ram-long, ram-length (so-far t));
+            ram-long = omega (arith, s .pre .0 .ram-long, span-ram (so-far t .span));
           },
       part-fits (p .before),
     )
@@ -145,9 +145,7 @@ within : (c : tie.After-part Inv-loop μ-loop) → c .before .before .loop .done
 within c = omega (arith, c .part .ensures, c .before .loop-test .taken)
 
 some-done : (c : tie.After-part Inv-loop μ-loop) → 0 < c .part .result
-some-done c =
-    let t = c .before in
-    omega (arith, c .part .ensures, t .loop-test .taken, mod-lt (entry t .args .address + t .before .loop .done) (pos t))
+some-done c = let t = c .before in some-next (sizesOf (entry t .args .head)) _ _ _ _ (pos t) (t .loop-test .taken) (c .part .ensures)
 
 -- the part of a turn
 abbrev parted : tie.After-after Inv-loop μ-loop → tie.After-part Inv-loop μ-loop
@@ -168,35 +166,35 @@ loop-again c =
     let s = entry t in
     let f = so-far t in
     touched-more f (t .loop-test .taken) (pos t) (p .before .part .result) (p .before .part .ensures) (p .page-of .result) (p .page-of .ensures)
-    (u .touch-checked .result .answer) _ (u .touch-checked .ensures .0 (f .zeros) (ram-long t)) (u .touch-checked .ensures .1) (v .clear-new .ensures)
+    (u .touch-checked .result .answer) _ (u .touch-checked .ensures .0 (f .span .zeros) (ram-long t)) (u .touch-checked .ensures .1) (v .clear-new .ensures)
     (omega (
       arith,
       place-below (sizesOf (s .args .head)) (s .args .space) (p .page-of .result) (s .pre .0 .space) (page-low p),
       s .pre .1 _ (page-low p) .ready .table-long,
-      ap (λ (l : Lent). l .table) (same-lengths f),
+      ap (λ (l : Lent). l .table) (span-lengths (f .span)),
     ))
     (below u)
 
 same-length : tie.Need-same-length Inv-loop μ-loop
-same-length c = ap (λ (l : Lent). l .count) (same-lengths (c .before .loop .inv))
+same-length c = ap (λ (l : Lent). l .count) (span-lengths (c .before .loop .inv .span))
 
 same-length-2 : tie.Need-same-length-2 Inv-loop μ-loop
-same-length-2 c = ap (λ (l : Lent). l .table) (same-lengths (c .before .loop .inv))
+same-length-2 c = ap (λ (l : Lent). l .table) (span-lengths (c .before .loop .inv .span))
 
 same-length-3 : tie.Need-same-length-3 Inv-loop μ-loop
-same-length-3 c = ap (λ (l : Lent). l .helper) (same-lengths (c .before .loop .inv))
+same-length-3 c = ap (λ (l : Lent). l .helper) (span-lengths (c .before .loop .inv .span))
 
 same-length-4 : tie.Need-same-length-4 Inv-loop μ-loop
-same-length-4 c = ap (λ (l : Lent). l .stack) (same-lengths (c .before .loop .inv))
+same-length-4 c = ap (λ (l : Lent). l .stack) (span-lengths (c .before .loop .inv .span))
 
 same-length-5 : tie.Need-same-length-5 Inv-loop μ-loop
-same-length-5 c = ap (λ (l : Lent). l .cache) (same-lengths (c .before .loop .inv))
+same-length-5 c = ap (λ (l : Lent). l .cache) (span-lengths (c .before .loop .inv .span))
 
 same-length-6 : tie.Need-same-length-6 Inv-loop μ-loop
-same-length-6 c = ap (λ (l : Lent). l .link) (same-lengths (c .before .loop .inv))
+same-length-6 c = ap (λ (l : Lent). l .link) (span-lengths (c .before .loop .inv .span))
 
 same-length-7 : tie.Need-same-length-7 Inv-loop μ-loop
-same-length-7 c = ram-length (c .before .loop .inv)
+same-length-7 c = span-ram (c .before .loop .inv .span)
 
 returns : tie.Need-returns Inv-loop μ-loop
 returns c = touched-all (c .before .loop .inv) (c .loop-test .left)

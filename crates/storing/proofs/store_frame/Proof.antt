@@ -1,15 +1,15 @@
 -- The part lies in the frame, and what comes back of it is what was stored.
-use mathlib.Core.Path.{_≡_, sym, ap, ap₂, _∙_}
-use mathlib.Core.List.{List, _++_, append-nil, append-assoc}
+use mathlib.Core.Path.{_≡_, refl, ap, ap₂, _∙_}
+use mathlib.Core.List.{List, _++_, append-nil}
 use Prim.Native.Nat.{ℕ, _+_, _-_, _≤_}
 use native.Mathlib.Nat.{add-sub-cancel-left}
 use native.Mathlib.Omega.{arith}
 use borrow.Rule.Slice.PartMut.{putMid}
 use lib.ListN.{length, take, drop, drop-of-length-le}
-use lib.Seq.{drop-drop, sets, sets-eq}
+use lib.Seq.{sets}
 use borrow.Author.Needs.{needs}
 use Rattle.spans.specs.Parts.{RamPlace}
-use Rattle.spans.specs.PartLaws.{part-small, part-low, part-ends, part-long}
+use Rattle.spans.specs.PartLaws.{put-sets, part-small, part-low, part-ends, part-long}
 use Rattle.storing.proofs.store_frame.Statement.{statement}
 use Rattle.storing.proofs.store_frame.Tie as tie
 
@@ -19,11 +19,8 @@ part-back : (from q : ℕ) (vs ram last : List ℕ) → from ≡ q → from + le
 part-back from q vs ram last is l long e =
     let n = length vs in
     let rest = drop-of-length-le (take (from + n - from) (drop from ram)) {i = n} (omega arith) in
-    ap₂ (λ (k : ℕ) (ws : List ℕ). take from ram ++ (ws ++ drop k (drop from ram))) (add-sub-cancel-left from n)
-    (e ∙ ap (λ (ws : List ℕ). vs ++ ws) rest ∙ append-nil vs)
-    ∙ ap (λ (ws : List ℕ). take from ram ++ (vs ++ ws)) (drop-drop n from ram)
-    ∙ sym (append-assoc (take from ram) vs (drop (from + n) ram))
-    ∙ sym (sets-eq vs ram from l)
+    ap₂ (λ (k : ℕ) (ws : List ℕ). putMid from k ram ws) (add-sub-cancel-left from n) (e ∙ ap (λ (ws : List ℕ). vs ++ ws) rest ∙ append-nil vs)
+    ∙ put-sets from n ram vs refl l
     ∙ ap (λ (p : ℕ). sets ram p vs) is
 
 abbrev entry : tie.After-ram-place → tie.Start
