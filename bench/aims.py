@@ -30,6 +30,10 @@ AIMS = [
     Aim("write of 64 KiB of new pages", [("write new", 65536, "write")], {"checked": 110, "clang_checked": 110}),
     Aim("write of 1 MiB of new pages", [("write new", 1 << 20, "write")], {"checked": 110, "clang_checked": 110}),
 ]
+# The map file's two calls, at every file of bench/maps.c: what most of it is, and its bytes, from about 1 KiB to the largest.
+FILES = {"regions": (972, 15132, 230172, 3670812), "pairs": (948, 16436, 262196, 524340), "pool": (1000, 16424, 262184), "board": (1084, 406300)}
+MAPS = [Aim(f"{call} of a map", [(f"{call} map {what}", size, f"{call}_map") for what, sizes in FILES.items() for size in sizes],
+            {"checked": 200, "clang_checked": 200}) for call in ("read", "write")]
 # All actions of the source paper's workload together, with what their caller does, against the method without checks; each read and write copies 4 bytes,
 # and the clearing of new pages is left out.
 WORKLOAD = Aim("all actions of the workload", [], {"method": 200})
@@ -44,6 +48,7 @@ MOVED |= {("write new", pages * 4096): pages * COPIED[4096] for pages in (1, 16,
 MOVED |= {("touch new", size): ZEROED[size] for size in (4096, 65536)}
 MOVED |= {("write new", 16): COPIED[16] + ZEROED[4080], ("write new inside", 16): COPIED[16] + 2 * ZEROED[2048],
           ("write new across", 4096): 2 * COPIED[2048] + 2 * ZEROED[2048]}
+# A map's reading clears tables and sets of any length, not the same by hand as in the pager: there it counts by scale below.
 # The clearing is left out of what is about the find and the mapping.
 MOVED |= {("touch absent", words): 0 for words in WORDS}
 # Why an aim is missed. A write makes a find for each page that it maps, where C with the checks makes one for the span and then tests one bit a page.
@@ -93,10 +98,16 @@ def moved(functions):
     return zeroed(functions) + sum(cost for name, cost in functions.items() if re.match(r"_*mem(cpy|move)(_|$)", name))
 
 
+def scale(counts):
+    """What memset's instructions are to be multiplied by to count as ZEROED has them: the same run's memset of the largest page tells."""
+    return ZEROED[65536] / zeroed(counts["touch new", 65536, "plain"])
+
+
 def alike(counts, what, size, engine, call):
-    """Instructions of one call, what it copies and clears counted as MOVED has it."""
+    """Instructions of one call, what it copies and clears counted as MOVED has it, or by scale."""
     own = moved(counts[what, size, engine])
-    return inside(counts, what, size, engine, call) - own + (MOVED.get((what, size), own) if own else 0)
+    to_count = own * scale(counts) if call.endswith("_map") else MOVED.get((what, size), own)
+    return inside(counts, what, size, engine, call) - own + (to_count if own else 0)
 
 
 def ratio(counts, aim, engine):

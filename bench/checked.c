@@ -1,10 +1,11 @@
 /*
- * What the checks cost any program: seven calls of the pager written by hand in C with all that document 01 demands of
+ * What the checks cost any program: nine calls of the pager written by hand in C with all that document 01 demands of
  * every call (refusals 1 to 3 on any head and any lengths, nothing undefined on any tables), through the same long
  * entrance and over the same head and buffers. Instructions are compared with it, and the times of calls on a resident page.
  */
 #include "checked.h"
 
+#include <endian.h>
 #include <string.h>
 
 #define SAY(kind, words, value) ((answer){(kind), (words), (value)})
@@ -420,5 +421,297 @@ answer checked_write(corwystal_head *head, uint32_t space, size_t address, const
     if (end != size)
         memset(at + end, 0, size - end);
     memcpy(at + offset, bytes, bytes_len);
+    return SAY(CORWYSTAL_DONE, 0, 0);
+}
+
+/* ---- the map file */
+
+/* Little-endian words at any address. By bytes and shifts gcc makes four stores of each. */
+static inline uint32_t word_at(const uint8_t *file, size_t at)
+{
+    uint32_t word;
+    memcpy(&word, file + 4 * at, sizeof word);
+    return le32toh(word);
+}
+
+static inline void put_word(uint8_t *file, size_t at, uint32_t word)
+{
+    word = htole32(word);
+    memcpy(file + 4 * at, &word, sizeof word);
+}
+
+/* Sizes, and three words for each space and for the pool. */
+static inline size_t contents_words(size_t spaces) { return 3 * spaces + 7; }
+
+static inline void put_row(uint8_t *file, size_t row, size_t start, size_t length, size_t resident)
+{
+    put_word(file, 3 * row + 4, (uint32_t)start);
+    put_word(file, 3 * row + 5, (uint32_t)length);
+    put_word(file, 3 * row + 6, (uint32_t)resident);
+}
+
+/* The first start from p on, or the end. */
+static inline size_t next_start(const uint64_t *index, size_t p, size_t end)
+{
+    if (p >= end)
+        return end;
+    size_t at = p / 64, last = (end - 1) / 64;
+    uint64_t w = index[at] & ~0ull << (p % 64);
+    while (w == 0) {
+        if (at == last)
+            return end;
+        w = index[++at];
+    }
+    return lesser(at * 64 + (size_t)__builtin_ctzll(w), end);
+}
+
+/* The words of all regions and their pairs, or SIZE_MAX where counts aren't ours: they and the pool must make up all frames. */
+static size_t bodies_words(const corwystal_head *head, size_t t, size_t pool, const uint64_t *index, const uint32_t *count)
+{
+    size_t regions = 0, pairs = 0;
+    for (size_t at = 0; at < (t + 63) / 64; at++) {
+        uint64_t w = at == t / 64 ? index[at] & ((1ull << (t % 64)) - 1) : index[at];
+        for (; w != 0; w &= w - 1, regions++) {
+            size_t a = at * 64 + (size_t)__builtin_ctzll(w);
+            if (count[a] > t - a)
+                return SIZE_MAX;
+            pairs += count[a];
+        }
+    }
+    return pairs + pool == head->frames ? 3 * regions + 2 * pairs : SIZE_MAX;
+}
+
+/* The body of a space and its row in the contents; where the next body starts. */
+static __attribute__((noinline)) size_t put_space(uint8_t *file, size_t at, size_t space, size_t pages, size_t t,
+                                                  const uint64_t *index, const uint32_t *count, const uint32_t *table,
+                                                  const uint32_t *stack)
+{
+    size_t lo = space * pages, end = lo + pages, body = at, resident = 0;
+    for (size_t a = next_start(index, lo, end), next; a < end; a = next) {
+        size_t n = count[a];
+        next = next_start(index, a + 1, end);
+        put_word(file, at, (uint32_t)(a - lo));
+        put_word(file, at + 1, (uint32_t)(next - a));
+        put_word(file, at + 2, (uint32_t)n);
+        at += 3;
+        for (size_t j = 0; j < n; j++, at += 2) {
+            size_t p = stack[a + j];
+            put_word(file, at, (uint32_t)(p - lo));
+            put_word(file, at + 1, LIKELY(p < t) ? table[p] : UINT32_MAX);
+        }
+        resident += n;
+    }
+    put_row(file, space, body, at - body, resident);
+    return at;
+}
+
+/* The linked frames in order, then the fresh ones. */
+static __attribute__((noinline)) void put_pool(const corwystal_head *head, const uint32_t *link, uint8_t *file, size_t at)
+{
+    uint32_t frame = head->first, frames = head->frames;
+    for (size_t end = at + head->many; at < end; at++) {
+        put_word(file, at, frame);
+        if (LIKELY(frame < frames))
+            frame = link[frame];
+    }
+    for (frame = head->fresh; frame < frames; frame++)
+        put_word(file, at++, frame);
+}
+
+/*
+ * The length is known before anything is written. A word of stack, table or link that isn't ours goes into the file as it
+ * stands, where reading refuses it.
+ */
+answer checked_write_map(const corwystal_head *head, const uint64_t *index, size_t index_len, const uint32_t *count,
+                         size_t count_len, const uint32_t *table, size_t table_len, const uint32_t *stack,
+                         size_t stack_len, const uint32_t *link, size_t link_len, uint8_t *file, size_t file_len)
+{
+    size_t t = (size_t)head->spaces * head->pages, tables = lesser(count_len, lesser(table_len, stack_len));
+    if (!sizes_ok(head) || index_len < index_words(t) || tables < t || link_len < head->frames)
+        return SAY(CORWYSTAL_NO_SIZE, 0, 0);
+    if (head->fresh > head->frames)
+        return SAY(CORWYSTAL_NOT_OURS, 0, 0);
+    size_t pages = head->pages, frames = head->frames, pool = (size_t)head->many + (frames - head->fresh);
+    size_t bodies = bodies_words(head, t, pool, index, count), at = contents_words(head->spaces);
+    if (bodies == SIZE_MAX)
+        return SAY(CORWYSTAL_NOT_OURS, 0, 0);
+    size_t bytes = 4 * (at + bodies + pool);
+    if (file_len < bytes)
+        return SAY(CHECKED_NO_MAP_ROOM, 0, 0);
+    put_word(file, 0, head->spaces);
+    put_word(file, 1, head->pages);
+    put_word(file, 2, head->frames);
+    put_word(file, 3, 1u << head->page_shift);
+    for (size_t space = 0; space < head->spaces; space++)
+        at = put_space(file, at, space, pages, t, index, count, table, stack);
+    put_row(file, head->spaces, at, pool, pool);
+    put_pool(head, link, file, at);
+    return SAY(CHECKED_MAP, 0, bytes);
+}
+
+/* Whether a number wasn't in the set; it is then. */
+static inline int adds(uint64_t *set, size_t n)
+{
+    uint64_t *word = set + n / 64, bit = 1ull << (n % 64);
+    int is_new = (*word & bit) == 0;
+    *word |= bit;
+    return is_new;
+}
+
+/* The same of a place, where only those of one window count. */
+static inline int adds_place(uint64_t *seen, size_t window, size_t place)
+{
+    return place / CHECKED_WINDOW != window || adds(seen, place % CHECKED_WINDOW);
+}
+
+/*
+ * memset, called whatever the length: of a length that it knows gcc makes the processor's block store, and callgrind counts each
+ * of its words as an instruction.
+ */
+static inline void clear(uint64_t *set, size_t bytes)
+{
+    __asm__("" : "+r"(bytes));
+    memset(set, 0, bytes);
+}
+
+/* Whether a file whose contents are whole and whose sizes are within their limits is the map of a sound state. */
+static __attribute__((noinline)) int is_sound(const uint8_t *file, size_t words, size_t spaces, size_t pages, size_t frames)
+{
+    uint64_t held[CORWYSTAL_MOST_FRAMES / 64], seen[CHECKED_WINDOW / 64];
+    clear(held, (frames + 63) / 64 * sizeof *held);
+    size_t at = contents_words(spaces), pairs = 0, window = SIZE_MAX;
+    for (size_t space = 0; space < spaces; space++) {
+        size_t lo = space * pages, length = word_at(file, 3 * space + 5), before = pairs;
+        if (word_at(file, 3 * space + 4) != at || length > words - at)
+            return 0;
+        size_t end = at + length;
+        while (at < end) {
+            if (end - at < 3)
+                return 0;
+            size_t start = word_at(file, at), many = word_at(file, at + 1), n = word_at(file, at + 2), next = pages;
+            at += 3;
+            if (n > (end - at) / 2)
+                return 0;
+            size_t after = at + 2 * n;
+            /* each region has a page and ends where the next one starts, so starts ascend */
+            if (after < end)
+                next = word_at(file, after);
+            if (many == 0 || start + many != next || next > pages)
+                return 0;
+            size_t w = (lo + start) / CHECKED_WINDOW, last = (lo + next - 1) / CHECKED_WINDOW;
+            if (w != window)
+                clear(seen, sizeof seen);
+            for (size_t k = at; k < after; k += 2) {
+                size_t page = word_at(file, k), frame = word_at(file, k + 1);
+                if (page - start >= many || frame >= frames || !adds(held, frame) || !adds_place(seen, w, lo + page))
+                    return 0;
+            }
+            /* a region over several windows is walked once for each */
+            while (w < last) {
+                w++;
+                clear(seen, sizeof seen);
+                for (size_t k = at; k < after; k += 2)
+                    if (!adds_place(seen, w, lo + word_at(file, k)))
+                        return 0;
+            }
+            window = w;
+            pairs += n;
+            at = after;
+        }
+        if (word_at(file, 3 * space + 6) != pairs - before)
+            return 0;
+    }
+    size_t pool = word_at(file, 3 * spaces + 5);
+    if (word_at(file, 3 * spaces + 4) != at || pool != words - at || word_at(file, 3 * spaces + 6) != pool ||
+        pairs + pool != frames)
+        return 0;
+    for (; at < words; at++) {
+        size_t frame = word_at(file, at);
+        if (frame >= frames || !adds(held, frame))
+            return 0;
+    }
+    return 1;
+}
+
+/* The layers above the lowest, which is in its place; all of them are clear. */
+static void set_layers(uint64_t *index, size_t t)
+{
+    size_t low = (t + 63) / 64, middle = (low + 63) / 64;
+    if (t <= 64)
+        return;
+    for (size_t at = 0; at < low; at++)
+        index[low + at / 64] |= (uint64_t)(index[at] != 0) << (at % 64);
+    if (t <= 4096)
+        return;
+    for (size_t at = 0; at < middle; at++)
+        index[low + middle] |= (uint64_t)(index[low + at] != 0) << at;
+}
+
+/* The regions and pairs of one space's body, from word at to end; index and count are clear, and all is known to be sound. */
+static __attribute__((noinline)) void fill_space(const uint8_t *file, size_t at, size_t end, size_t lo, uint64_t *index,
+                                                 uint32_t *count, uint32_t *table, uint32_t *helper, uint32_t *stack,
+                                                 uint32_t *cache, uint32_t *link)
+{
+    while (at < end) {
+        size_t a = lo + word_at(file, at), n = word_at(file, at + 2);
+        uint32_t newest = 0;
+        index[a / 64] |= 1ull << (a % 64);
+        count[a] = (uint32_t)n;
+        at += 3;
+        for (size_t j = 0; j < n; j++, at += 2) {
+            size_t p = lo + word_at(file, at);
+            uint32_t frame = word_at(file, at + 1);
+            link[frame] = newest;
+            newest = frame;
+            table[p] = frame;
+            helper[p] = (uint32_t)j;
+            stack[a + j] = (uint32_t)p;
+            cache[p] = (uint32_t)a;
+        }
+    }
+}
+
+/* The pool's frames from word at on, linked in order; the first one, or 0. */
+static __attribute__((noinline)) uint32_t fill_pool(const uint8_t *file, size_t at, size_t words, uint32_t *link)
+{
+    if (at == words)
+        return 0;
+    uint32_t first = word_at(file, at), last = first;
+    while (++at < words) {
+        uint32_t next = word_at(file, at);
+        link[last] = next;
+        last = next;
+    }
+    return first;
+}
+
+/* All is judged before anything is stored. */
+answer checked_read_map(corwystal_head *head, const uint8_t *file, size_t file_len, uint64_t *index, size_t index_len,
+                        uint32_t *count, size_t count_len, uint32_t *table, size_t table_len, uint32_t *helper,
+                        size_t helper_len, uint32_t *stack, size_t stack_len, uint32_t *cache, size_t cache_len,
+                        uint32_t *link, size_t link_len)
+{
+    size_t words = file_len / 4, tables = lesser(lesser(count_len, table_len), lesser(helper_len, lesser(stack_len, cache_len)));
+    if (words < contents_words(1))
+        return SAY(CHECKED_NO_MAP, 0, 0);
+    uint32_t spaces = word_at(file, 0), pages = word_at(file, 1), frames = word_at(file, 2), page = word_at(file, 3);
+    corwystal_head made = {spaces, pages, frames, page != 0 ? highest(page) : 0, 0, 0, frames};
+    if (!sizes_ok(&made) || page != 1u << made.page_shift || words < contents_words(spaces))
+        return SAY(CHECKED_NO_MAP, 0, 0);
+    size_t t = (size_t)spaces * pages;
+    if (index_len < index_words(t) || tables < t || link_len < frames)
+        return SAY(CORWYSTAL_NO_SIZE, 0, 0);
+    if (file_len % 4 != 0 || !is_sound(file, words, spaces, pages, frames))
+        return SAY(CHECKED_NO_MAP, 0, 0);
+    memset(index, 0, index_words(t) * sizeof *index);
+    memset(count, 0, t * sizeof *count);
+    for (size_t space = 0; space < spaces; space++) {
+        size_t at = word_at(file, 3 * space + 4), end = at + word_at(file, 3 * space + 5);
+        fill_space(file, at, end, space * pages, index, count, table, helper, stack, cache, link);
+    }
+    set_layers(index, t);
+    made.many = word_at(file, 3 * (size_t)spaces + 5);
+    made.first = fill_pool(file, words - made.many, words, link);
+    *head = made;
     return SAY(CORWYSTAL_DONE, 0, 0);
 }

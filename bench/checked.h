@@ -1,5 +1,5 @@
 /*
- * Seven of the pager's calls by hand in C with the pager's checks: the arguments are those of corwystal.h. The faces hand over
+ * Nine of the pager's calls by hand in C with the pager's checks: the arguments are those of corwystal.h. The faces hand over
  * the pager's own record (faces.c).
  */
 #ifndef CHECKED_H
@@ -38,6 +38,23 @@ answer checked_write(corwystal_head *head, uint32_t space, size_t address, const
                      size_t table_len, uint32_t *helper, size_t helper_len, uint32_t *stack, size_t stack_len,
                      uint32_t *cache, size_t cache_len, uint32_t *link, size_t link_len, uint8_t *ram, size_t ram_len);
 
+/* The map's refusals and answer. */
+enum { CHECKED_NO_MAP = 12, CHECKED_NO_MAP_ROOM = 13, CHECKED_MAP = 26 };
+
+/* Places in one window of the set of pages that a reading has seen: with 32,768 and the frames' 8 KiB it is 12 KiB of stack. */
+#ifndef CHECKED_WINDOW
+#define CHECKED_WINDOW 32768
+#endif
+
+answer checked_write_map(const corwystal_head *head, const uint64_t *index, size_t index_len, const uint32_t *count,
+                         size_t count_len, const uint32_t *table, size_t table_len, const uint32_t *stack,
+                         size_t stack_len, const uint32_t *link, size_t link_len, uint8_t *file, size_t file_len);
+
+answer checked_read_map(corwystal_head *head, const uint8_t *file, size_t file_len, uint64_t *index, size_t index_len,
+                        uint32_t *count, size_t count_len, uint32_t *table, size_t table_len, uint32_t *helper,
+                        size_t helper_len, uint32_t *stack, size_t stack_len, uint32_t *cache, size_t cache_len,
+                        uint32_t *link, size_t link_len);
+
 answer face_mark(corwystal_board *b, uint32_t space, uint32_t page);
 answer face_drop(corwystal_board *b, uint32_t space, uint32_t page);
 answer face_touch(corwystal_board *b, uint32_t space, uint32_t page);
@@ -45,5 +62,7 @@ answer face_look(corwystal_board *b, uint32_t space, uint32_t page);
 answer face_release(corwystal_board *b, uint32_t space, uint32_t page);
 answer face_translate(corwystal_board *b, uint32_t space, size_t address);
 answer face_write(corwystal_board *b, uint32_t space, size_t address, const uint8_t *bytes, size_t n);
+answer face_write_map(const corwystal_board *b, uint8_t *file, size_t n);
+answer face_read_map(corwystal_board *b, const uint8_t *file, size_t n);
 
 #endif

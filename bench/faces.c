@@ -42,3 +42,16 @@ answer face_write(corwystal_board *b, uint32_t space, size_t address, const uint
                          b->table_len, b->helper, b->helper_len, b->stack, b->stack_len, b->cache, b->cache_len,
                          b->link, b->link_len, b->ram, b->ram_len);
 }
+
+answer face_write_map(const corwystal_board *b, uint8_t *file, size_t n)
+{
+    return checked_write_map(&b->head, b->index, b->index_len, b->count, b->count_len, b->table, b->table_len, b->stack,
+                             b->stack_len, b->link, b->link_len, file, n);
+}
+
+answer face_read_map(corwystal_board *b, const uint8_t *file, size_t n)
+{
+    return checked_read_map(&b->head, file, n, b->index, b->index_len, b->count, b->count_len, b->table, b->table_len,
+                            b->helper, b->helper_len, b->stack, b->stack_len, b->cache, b->cache_len, b->link,
+                            b->link_len);
+}

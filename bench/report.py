@@ -45,7 +45,7 @@ def workload(name):
 
 with open(out + "/lines") as line:
     lines_counted = dict(zip(("session_program", "gcc", "clang"), map(int, line.read().split())))
-counts = aims.dumps(out + "/counts")
+counts = aims.dumps(out + "/counts") | aims.dumps(out + "/mapped")
 clocked, rate = times(out + "/times")
 actions = workload(out + "/workload.played")
 kinds_counted = aims.dumps(out + "/kinds")
@@ -224,6 +224,19 @@ def table_c_pages():
                   "C / memcpy"], rows)
 
 
+def table_maps():
+    rows = []
+    engines = ["pager"] + both("checked")
+    for aim in aims.MAPS:
+        for what, size, call in aim.cases:
+            whole = [inside(what, size, e, call) for e in engines]
+            unset = [cost - clearing(what, size, e) if clearing(what, size, e) else None for cost, e in zip(whole, engines)]
+            rows.append([what.replace(" map ", ", "), number(size)] + [cell for costs in (whole, unset) for cell in
+                        [number(cost) for cost in costs] + [ratio(costs[0], cost) for cost in costs[1:]]])
+    names = ["pager"] + [named(e) for e in both("checked")] + ["pager / " + named(e) for e in both("checked")]
+    return table(["call, file", "bytes"] + names + ["the same without memset: pager"] + names[1:], rows)
+
+
 def start_case():
     return next(case for key, case in clocked.items() if key[0] == "start")
 
@@ -294,7 +307,7 @@ def table_aims():
     start = case["pager"] / case["plain"]
     rows = [["release", "the same from 1 to 65,536 pages", f"{number(min(release))} to {number(max(release))} instructions",
              met(min(release) == max(release))]]
-    for aim in aims.AIMS:
+    for aim in aims.AIMS + aims.MAPS:
         rows += aim_rows(aim, lambda engine: aims.ratio(counts, aim, engine))
     small, most = aims.page_ratio(counts), aims.SMALL.most["plain"]
     rows += [[aims.SMALL.name, f"at most {most / 100:.2f} x a memset of a page", f"{math.ceil(small * 100 - 1e-9) / 100:.2f}",
@@ -457,7 +470,7 @@ figure_copies()
 tables = {"machine": f"Processor: {processor()}. Compilers of the C: {sys.argv[4]}, `-O3`.",
           "aims": table_aims(), "a": table_a(), "b": table_b(), "b-time": table_b_time(), "c": table_c(),
           "c-time": table_c_time(), "c-pages": table_c_pages(), "new": table_new(), "new-time": table_new_time(),
-          "d": table_d(), "e": table_e(), "f": table_f()}
+          "d": table_d(), "e": table_e(), "f": table_f(), "maps": table_maps()}
 with open(doc) as f:
     text = f.read()
 for name, made in tables.items():

@@ -56,12 +56,14 @@ extern "C" {
  *     count, table, helper, stack, cache             T entries each, uint32_t
  *     link                                           F entries,      uint32_t
  *     ram                                            F x P bytes
+ *     file                              CORWYSTAL_MAP_BYTES(S, T, F) bytes, enough for every map
  */
 #define CORWYSTAL_LAYER_WORDS(bits) (((size_t)(bits) + 63) / 64)
 #define CORWYSTAL_LAYER_ABOVE(words) ((words) > 1 ? CORWYSTAL_LAYER_WORDS(words) : 0)
 #define CORWYSTAL_INDEX_WORDS(t)                                                                                       \
     (CORWYSTAL_LAYER_WORDS(t) + CORWYSTAL_LAYER_ABOVE(CORWYSTAL_LAYER_WORDS(t)) +                                      \
      CORWYSTAL_LAYER_ABOVE(CORWYSTAL_LAYER_ABOVE(CORWYSTAL_LAYER_WORDS(t))))
+#define CORWYSTAL_MAP_BYTES(s, t, f) (4 * (3 * (size_t)(s) + 7 + 3 * (size_t)(t) + 2 * (size_t)(f)))
 
 /* Entries of each buffer, computed; refusal is 1 for sizes outside their limits, and the rest is then 0. */
 typedef struct corwystal_needs {
@@ -70,6 +72,7 @@ typedef struct corwystal_needs {
     size_t places; /* 32-bit words of count, table, helper, stack and cache each */
     size_t link;   /* 32-bit words */
     size_t ram;    /* bytes */
+    size_t map;    /* bytes of a map file, at most */
 } corwystal_needs;
 
 CORWYSTAL_USE_ANSWER
@@ -77,7 +80,7 @@ corwystal_needs corwystal_sizes(uint32_t spaces, uint32_t pages, uint32_t frames
 
 /* ---- what is lent */
 
-/* The head record. All zeros before the first start; only the calls change it. */
+/* The head record. All zeros before the first start or the first map read; only the calls change it. */
 typedef struct corwystal_head {
     uint32_t spaces;
     uint32_t pages;
@@ -101,7 +104,7 @@ typedef struct corwystal_region {
 /* ---- answers */
 
 typedef struct corwystal_answer {
-    uint32_t kind;  /* 1 to 11: the number of a refusal; from 16 on: what was answered */
+    uint32_t kind;  /* 1 to 13: the number of a refusal; from 16 on: what was answered */
     uint32_t words; /* index words read by touch and look; 0 in every other answer */
     uint64_t value; /* see the kinds; 0 where none is named, and in every refusal */
 } corwystal_answer;
@@ -118,8 +121,10 @@ enum {
     CORWYSTAL_NOT_OURS = 9,     /* head or tables are not what these calls left */
     CORWYSTAL_NOT_RESIDENT = 10, /* the page is in a region, but absent */
     CORWYSTAL_NO_ROOM = 11,     /* fewer records than regions */
+    CORWYSTAL_NO_MAP = 12,      /* the bytes are no map file */
+    CORWYSTAL_NO_MAP_ROOM = 13, /* the buffer is shorter than the map */
 
-    CORWYSTAL_DONE = 16,     /* start, mark, drop, write */
+    CORWYSTAL_DONE = 16,     /* start, mark, drop, write, read_map */
     CORWYSTAL_OLD = 17,      /* touch: value is the frame; the page was resident */
     CORWYSTAL_NEW = 18,      /* touch: value is the frame; it was mapped just now and is all zeros */
     CORWYSTAL_RESIDENT = 19, /* look: value is the frame */
@@ -128,7 +133,8 @@ enum {
     CORWYSTAL_FRAMES = 22,   /* free_count: value is the number of frames in the pool */
     CORWYSTAL_AT = 23,       /* translate: value is the place in RAM */
     CORWYSTAL_BYTES = 24,    /* read: value is the number of bytes, all of the buffer */
-    CORWYSTAL_REGIONS = 25   /* list: value is the number of records filled */
+    CORWYSTAL_REGIONS = 25,  /* list: value is the number of records filled */
+    CORWYSTAL_MAP = 26       /* write_map: value is the map's length in bytes, at the buffer's front */
 };
 
 CORWYSTAL_USE_ANSWER
@@ -160,6 +166,10 @@ static inline const char *corwystal_text(corwystal_answer a) {
         return "the page is in a region, but absent: touch or write it first";
     case CORWYSTAL_NO_ROOM:
         return "fewer records than regions: lend more records";
+    case CORWYSTAL_NO_MAP:
+        return "the bytes are no map file: read it again, all of it and nothing more, or start";
+    case CORWYSTAL_NO_MAP_ROOM:
+        return "the buffer is shorter than the map: lend as many bytes as the sizes need";
     default:
         return corwystal_refused(a) ? "no call answers so: look where this answer comes from" : "done";
     }
@@ -240,6 +250,31 @@ CORWYSTAL_USE_ANSWER
 corwystal_answer corwystal_list(const corwystal_head *head, uint32_t space, corwystal_region *records,
                                 size_t records_len, const uint64_t *index, size_t index_len, const uint32_t *count,
                                 size_t count_len);
+
+/*
+ * The whole state but for the RAM as a map file at the buffer's front; the bytes after it stay, and so does all else. Refused with 1,
+ * then with 9 if head or tables are not what these calls left (start anew, or read an older map), then with 13 if the buffer is shorter
+ * than the map (CORWYSTAL_MAP_BYTES are always enough). A refusal leaves the buffer.
+ */
+CORWYSTAL_USE_ANSWER
+corwystal_answer corwystal_write_map(const corwystal_head *head, const uint64_t *index, size_t index_len,
+                                     const uint32_t *count, size_t count_len, const uint32_t *table, size_t table_len,
+                                     const uint32_t *stack, size_t stack_len, const uint32_t *link, size_t link_len,
+                                     uint8_t *file, size_t file_len);
+
+/*
+ * Begins anew with the state that a map file tells, as a start does with an empty one: it sets the head, needs no start before it, and
+ * index and tables may hold anything. The RAM is not lent and stays: pages that are resident in the map show what stands there, later
+ * ones are zeros. The file is all of the bytes lent. Refused with 12 if its contents are cut short or name sizes outside their limits,
+ * with 1 if a buffer is too short for those sizes, and with 12 if it is no map otherwise (read it again, or start). A refusal leaves
+ * all as it was, an earlier start too. Takes up to 12 KiB of stack, more than any other call: docs/KERNEL.md.
+ */
+CORWYSTAL_USE_ANSWER
+corwystal_answer corwystal_read_map(corwystal_head *head, const uint8_t *file, size_t file_len, uint64_t *index,
+                                    size_t index_len, uint32_t *count, size_t count_len, uint32_t *table,
+                                    size_t table_len, uint32_t *helper, size_t helper_len, uint32_t *stack,
+                                    size_t stack_len, uint32_t *cache, size_t cache_len, uint32_t *link,
+                                    size_t link_len);
 
 #ifdef __cplusplus
 }

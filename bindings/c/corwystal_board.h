@@ -15,7 +15,7 @@ extern "C" {
 #define CORWYSTAL_LENT(array) (array), sizeof(array) / sizeof((array)[0])
 
 typedef struct corwystal_board {
-    corwystal_head head; /* all zeros before the first start */
+    corwystal_head head; /* all zeros before the first start or the first map read */
     uint64_t *index;
     size_t index_len;
     uint32_t *count;
@@ -108,6 +108,20 @@ CORWYSTAL_USE_ANSWER
 static inline corwystal_answer corwystal_board_list(const corwystal_board *b, uint32_t space, corwystal_region *records,
                                                     size_t n) {
     return corwystal_list(&b->head, space, records, n, b->index, b->index_len, b->count, b->count_len);
+}
+
+CORWYSTAL_USE_ANSWER
+static inline corwystal_answer corwystal_board_write_map(const corwystal_board *b, uint8_t *file, size_t n) {
+    return corwystal_write_map(&b->head, b->index, b->index_len, b->count, b->count_len, b->table, b->table_len, b->stack,
+                               b->stack_len, b->link, b->link_len, file, n);
+}
+
+/* The RAM isn't lent: if it is shorter than the map's frames, touch, read and write are refused with 1 from then on. */
+CORWYSTAL_USE_ANSWER
+static inline corwystal_answer corwystal_board_read_map(corwystal_board *b, const uint8_t *file, size_t n) {
+    return corwystal_read_map(&b->head, file, n, b->index, b->index_len, b->count, b->count_len, b->table, b->table_len,
+                              b->helper, b->helper_len, b->stack, b->stack_len, b->cache, b->cache_len, b->link,
+                              b->link_len);
 }
 
 #ifdef __cplusplus

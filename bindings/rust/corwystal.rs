@@ -41,6 +41,8 @@ pub struct Needs {
     pub link: usize,
     /// Bytes of RAM.
     pub ram: usize,
+    /// Bytes of a map file, at most: as long a buffer has room for every map, see [`Pager::write_map`].
+    pub map: usize,
 }
 
 /// The words of an index of so many places, as a constant, for memory laid out when the kernel is built.
@@ -53,6 +55,12 @@ pub const fn index_words(places: usize) -> usize {
         words += layer;
     }
     words
+}
+
+/// The bytes of a map file at most, of so many spaces, places and frames, as a constant; [`Needs::map`] is the same.
+#[must_use]
+pub const fn map_bytes(spaces: usize, places: usize, frames: usize) -> usize {
+    4 * (3 * spaces + 7 + 3 * places + 2 * frames)
 }
 
 impl Sizes {
@@ -68,7 +76,24 @@ impl Sizes {
             places: needs.places,
             link: needs.link,
             ram: needs.ram,
+            map: needs.map,
         })
+    }
+
+    // Those of a map file whose contents aren't cut short.
+    fn in_map(file: &[u8]) -> Option<Sizes> {
+        let word = |k: usize| -> Option<u32> {
+            let bytes = file.get(4 * k..4 * k + 4)?;
+            Some(u32::from_le_bytes(bytes.try_into().ok()?))
+        };
+        let sizes = Sizes {
+            spaces: word(0)?,
+            pages: word(1)?,
+            frames: word(2)?,
+            page: word(3)?,
+        };
+        let contents = 4 * (3 * u64::from(sizes.spaces) + 7);
+        (contents <= file.len() as u64).then_some(sizes)
     }
 }
 
@@ -98,10 +123,14 @@ pub enum Refusal {
     NotResident = 10,
     /// Fewer records than regions: lend a longer slice; as many as a space has pages are always enough.
     NoRoom = 11,
+    /// The bytes are no map file: read it again, all of it and nothing more, or start.
+    NoMap = 12,
+    /// The buffer is shorter than the map: [`Needs::map`] bytes are always enough.
+    NoMapRoom = 13,
 }
 
 impl Refusal {
-    /// Its number in docs/SPECIFICATION.md, 1 to 11.
+    /// Its number in docs/SPECIFICATION.md, 1 to 13.
     #[must_use]
     pub fn number(self) -> u32 {
         self as u32
@@ -119,6 +148,8 @@ impl Refusal {
             8 => Refusal::NoFrame,
             10 => Refusal::NotResident,
             11 => Refusal::NoRoom,
+            12 => Refusal::NoMap,
+            13 => Refusal::NoMapRoom,
             _ => Refusal::NotOurs,
         }
     }
@@ -138,6 +169,8 @@ impl fmt::Display for Refusal {
             Refusal::NotOurs => "head or tables are not what these calls left: trust no page and start anew",
             Refusal::NotResident => "the page is in a region, but absent: touch or write it first",
             Refusal::NoRoom => "fewer records than regions: lend more records",
+            Refusal::NoMap => "the bytes are no map file: read it again, all of it and nothing more, or start",
+            Refusal::NoMapRoom => "the buffer is shorter than the map: lend as many bytes as the sizes need",
         })
     }
 }
@@ -212,7 +245,8 @@ pub struct Region {
     pub resident: u32,
 }
 
-/// The memory that a pager works on. Only index and counts are prepared by a start; the rest may hold anything.
+/// The memory that a pager works on. All of it may hold anything before a start or a map that is read: a start prepares index and
+/// counts, a map index and tables.
 pub struct Memory<'a> {
     /// The index of starts: [`Needs::index`] words, or [`index_words`] as a constant.
     pub index: &'a mut [u64],
@@ -279,6 +313,44 @@ impl<'a> Pager<'a> {
         let answer = lend!(corwystal_start(&mut self.head, sizes.spaces, sizes.pages, sizes.frames, sizes.page;
             as_mut_ptr m.index, as_mut_ptr m.count));
         answer.done()
+    }
+
+    /// Begins with the state that a map file tells, and the RAM as it stands. Refused with [`Refusal::NoMap`] if the bytes are no map
+    /// file, and with [`Refusal::Size`] where a buffer is too short for its sizes.
+    pub fn from_map(memory: Memory<'a>, file: &[u8]) -> Result<Pager<'a>, Refusal> {
+        let mut pager = Pager {
+            head: raw::Head::default(),
+            memory,
+        };
+        pager.read_map(file)?;
+        Ok(pager)
+    }
+
+    /// Begins anew with the state that a map file tells; the RAM stays as it stands: pages that are resident in the map show it, later
+    /// ones are zeros. The file is all of the bytes. A refusal, as of [`Pager::from_map`], leaves the pager as it was.
+    pub fn read_map(&mut self, file: &[u8]) -> Result<(), Refusal> {
+        // the RAM isn't lent to the call, so that it has room is seen here, in the place of the call's own 1
+        if let Some(needs) = Sizes::in_map(file).and_then(Sizes::needs) {
+            if !self.memory.holds(&needs) {
+                return Err(Refusal::Size);
+            }
+        }
+        let m = &mut self.memory;
+        let answer = lend!(corwystal_read_map(&mut self.head;
+            as_ptr file, as_mut_ptr m.index, as_mut_ptr m.count, as_mut_ptr m.table, as_mut_ptr m.helper,
+            as_mut_ptr m.stack, as_mut_ptr m.cache, as_mut_ptr m.link));
+        answer.done()
+    }
+
+    /// The whole state but for the RAM as a map file at the front of the buffer, which is what is answered; the bytes after it stay.
+    /// Refused with [`Refusal::NotOurs`] on tables that others wrote, then with [`Refusal::NoMapRoom`] for a buffer that is shorter
+    /// than the map. A refusal leaves the buffer.
+    pub fn write_map<'f>(&self, file: &'f mut [u8]) -> Result<&'f [u8], Refusal> {
+        let m = &self.memory;
+        let answer = lend!(corwystal_write_map(&self.head;
+            as_ptr m.index, as_ptr m.count, as_ptr m.table, as_ptr m.stack, as_ptr m.link, as_mut_ptr file));
+        let n = answer.value_of(raw::MAP)? as usize;
+        Ok(&file[..n])
     }
 
     /// Makes a page a region's start. The region that it cuts must have no resident page.
@@ -407,6 +479,7 @@ mod raw {
     pub const AT: u32 = 23;
     pub const BYTES: u32 = 24;
     pub const REGIONS: u32 = 25;
+    pub const MAP: u32 = 26;
 
     #[must_use]
     #[repr(C)]
@@ -416,6 +489,7 @@ mod raw {
         pub places: usize,
         pub link: usize,
         pub ram: usize,
+        pub map: usize,
     }
 
     #[repr(C)]
@@ -626,6 +700,42 @@ mod raw {
             index_len: usize,
             count: *const u32,
             count_len: usize,
+        ) -> Answer;
+
+        pub fn corwystal_write_map(
+            head: *const Head,
+            index: *const u64,
+            index_len: usize,
+            count: *const u32,
+            count_len: usize,
+            table: *const u32,
+            table_len: usize,
+            stack: *const u32,
+            stack_len: usize,
+            link: *const u32,
+            link_len: usize,
+            file: *mut u8,
+            file_len: usize,
+        ) -> Answer;
+
+        pub fn corwystal_read_map(
+            head: *mut Head,
+            file: *const u8,
+            file_len: usize,
+            index: *mut u64,
+            index_len: usize,
+            count: *mut u32,
+            count_len: usize,
+            table: *mut u32,
+            table_len: usize,
+            helper: *mut u32,
+            helper_len: usize,
+            stack: *mut u32,
+            stack_len: usize,
+            cache: *mut u32,
+            cache_len: usize,
+            link: *mut u32,
+            link_len: usize,
         ) -> Answer;
     }
 }

@@ -224,7 +224,7 @@ page_pointers:
     .globl page_directory
 page_directory:
     .skip 4 * 4096
-    .skip 16384
+    .skip 32768
 stack_top:
 
     .section .note.GNU-stack, "", @progbits

@@ -8,24 +8,26 @@
  *   and then once for each of its instructions, with the timer's interrupt just before that one.
  * But for the telling ones, traps and interrupts come on the stack of the call, and their handler changes all that it may: the memory below the stack
  * pointer, the vector registers, and every other register before it puts it back. A scene has passed if every answer and every byte is as
- * undisturbed, and if the timer's interrupts came at just the instructions that the traps told of, each in its turn: so none was left out. Needs
- * QEMU's -icount shift=0, by which the timer counts instructions.
+ * undisturbed, and if the timer's interrupts came at just the instructions that the traps told of, each in its turn: so none was left out, but for an
+ * instruction that repeats itself hundreds of times, as a memset's does: it gets them at its first and at its last turns. Needs QEMU's -icount shift=0,
+ * by which the timer counts instructions.
  */
 #include "corwystal_board.h"
 #include "machine.h"
 
 /* ---- the memory of a scene: all that a call may change, in one piece */
 
-enum { MOST_PLACES = 4097, FRAMES = 8, PAGE = 256, RECORDS = 8 };
+enum { MOST_PLACES = 4097, FRAMES = 8, MANY_FRAMES = 100, PAGE = 256, RECORDS = 8, FILE = 512 };
 
 static struct memory {
     corwystal_head head;
     uint32_t gap; /* so that all of it is a number of 8 bytes */
     uint64_t index_words[CORWYSTAL_INDEX_WORDS(MOST_PLACES)];
-    uint32_t link[FRAMES];
+    uint32_t link[MANY_FRAMES];
     uint8_t ram[FRAMES * PAGE];
     uint8_t bytes[2 * PAGE];
     corwystal_region records[RECORDS];
+    uint8_t file[FILE];
     corwystal_answer answer;
     corwystal_needs needs;
     uint32_t tables[5 * MOST_PLACES + 1];
@@ -100,6 +102,20 @@ static void one_layer(void) {
     ready(corwystal_board_touch(&lent, 0, 5));
 }
 
+/* One space of 100 pages: two layers, also in the set of pages that a map's reading keeps. */
+static void two_layers(void) {
+    begin(1, 100);
+    ready(corwystal_board_mark(&lent, 0, 0)), ready(corwystal_board_mark(&lent, 0, 80));
+    ready(corwystal_board_touch(&lent, 0, 5)), ready(corwystal_board_touch(&lent, 0, 70)), ready(corwystal_board_touch(&lent, 0, 90));
+}
+
+/* More frames than one word of a set has bits; their RAM is not there, and no call with a map is lent it. */
+static void many_frames(void) {
+    begin(1, 64);
+    ready(corwystal_board_start(&lent, 1, 64, MANY_FRAMES, PAGE));
+    ready(corwystal_board_mark(&lent, 0, 0));
+}
+
 /* One space of 4,097 pages with one region: three layers, and a find from the last page reads five words. */
 static void three_layers(void) {
     begin(1, MOST_PLACES);
@@ -157,16 +173,61 @@ static void broken_head(void) {
     damaged = 1;
 }
 
+/* The places of the pages that two regions have: behind every table, and before the space of the second. */
+static void broken_stack(void) {
+    two_gauges();
+    lent.stack[0] = UINT32_MAX, lent.stack[1] = 128;
+    lent.stack[64 + 8] = 0;
+    damaged = 1;
+}
+
+/* A map that a board has written, with its length, lent to a board that has never started; and to one that has another state. */
+static size_t map_len;
+
+static void map_of(void (*writer)(void), void (*reader)(void)) {
+    static uint8_t map[FILE];
+    writer();
+    corwystal_answer a = corwystal_board_write_map(&lent, map, sizeof map);
+    ready(a);
+    reader();
+    map_len = (size_t)a.value;
+    memmove(now.file, map, sizeof map);
+}
+
+static void a_map(void) { map_of(two_gauges, never_started); }
+
+static void another_map(void) { map_of(two_gauges, fresh_pool); }
+
+static void a_full_map(void) { map_of(empty_pool, never_started); }
+
+static void a_small_map(void) { map_of(one_layer, one_layer); }
+
+static void a_map_of_two_layers(void) { map_of(two_layers, two_layers); }
+
+static void a_map_of_many_frames(void) { map_of(many_frames, many_frames); }
+
+static void a_map_of_three_layers(void) { map_of(three_layers, two_ends); }
+
+static void a_map_without_pages(void) { map_of(two_ends, no_starts); }
+
+/* A table is too short for it. */
+static void short_tables(void) {
+    a_map();
+    lent.cache_len--;
+}
+
 /* ---- the call */
 
-enum call { START, MARK, DROP, TOUCH, LOOK, RELEASE, FREE_COUNT, TRANSLATE, READ, WRITE, LIST, SIZES };
+enum call { START, MARK, DROP, TOUCH, LOOK, RELEASE, FREE_COUNT, TRANSLATE, READ, WRITE, LIST, WRITE_MAP, READ_MAP, SIZES };
 
+/* Of a map that is read, a word is made another: its place, counted from 1, in `at`, the word in `space`. That of two gauges has sizes in words 0 to 3, rows
+   up to word 12, two regions with 3 and 0 pages from word 13 on, one with 1 page from word 25 on, and four frames from word 30 on. */
 static const struct scene {
     const char *call, *how;
     void (*prepare)(void);
     enum call which;
     uint32_t space;
-    size_t at, n;  /* page or address; how many bytes or records, or a start's frames */
+    size_t at, n;  /* page or address; how many bytes or records, a start's frames, or how many bytes of a map are left out */
     uint32_t kind; /* of its answer */
 } scenes[] = {
     {"start", "", never_started, START, 2, 64, FRAMES, CORWYSTAL_DONE},
@@ -249,12 +310,63 @@ static const struct scene {
     {"list", "of no region", no_starts, LIST, 0, 0, RECORDS, CORWYSTAL_REGIONS},
     {"list", "in three layers", two_ends, LIST, 0, 0, RECORDS, CORWYSTAL_REGIONS},
     {"list", "outside", two_gauges, LIST, 2, 0, RECORDS, CORWYSTAL_NO_SPACE},
+    {"write_map", "", two_gauges, WRITE_MAP, 0, 0, FILE, CORWYSTAL_MAP},
+    {"write_map", "with a pool never used", fresh_pool, WRITE_MAP, 0, 0, FILE, CORWYSTAL_MAP},
+    {"write_map", "with an empty pool", empty_pool, WRITE_MAP, 0, 0, FILE, CORWYSTAL_MAP},
+    {"write_map", "in one layer", one_layer, WRITE_MAP, 0, 0, FILE, CORWYSTAL_MAP},
+    {"write_map", "in two layers", two_layers, WRITE_MAP, 0, 0, FILE, CORWYSTAL_MAP},
+    {"write_map", "of many frames", many_frames, WRITE_MAP, 0, 0, FILE, CORWYSTAL_MAP},
+    {"write_map", "in three layers", three_layers, WRITE_MAP, 0, 0, FILE, CORWYSTAL_MAP},
+    {"write_map", "with a broken pool", broken_pool, WRITE_MAP, 0, 0, FILE, CORWYSTAL_MAP},
+    {"write_map", "with a broken stack", broken_stack, WRITE_MAP, 0, 0, FILE, CORWYSTAL_MAP},
+    {"write_map", "without room", two_gauges, WRITE_MAP, 0, 0, 132, CORWYSTAL_NO_MAP_ROOM},
+    {"write_map", "with broken counts", broken_counts, WRITE_MAP, 0, 0, FILE, CORWYSTAL_NOT_OURS},
+    {"write_map", "with a broken head", broken_head, WRITE_MAP, 0, 0, FILE, CORWYSTAL_NOT_OURS},
+    {"write_map", "before a start", never_started, WRITE_MAP, 0, 0, FILE, CORWYSTAL_NO_SIZE},
+    {"read_map", "", a_map, READ_MAP, 0, 0, 0, CORWYSTAL_DONE},
+    {"read_map", "over another state", another_map, READ_MAP, 0, 0, 0, CORWYSTAL_DONE},
+    {"read_map", "with an empty pool", a_full_map, READ_MAP, 0, 0, 0, CORWYSTAL_DONE},
+    {"read_map", "in one layer", a_small_map, READ_MAP, 0, 0, 0, CORWYSTAL_DONE},
+    {"read_map", "in two layers", a_map_of_two_layers, READ_MAP, 0, 0, 0, CORWYSTAL_DONE},
+    {"read_map", "of many frames", a_map_of_many_frames, READ_MAP, 0, 0, 0, CORWYSTAL_DONE},
+    {"read_map", "of many frames, one of them twice", a_map_of_many_frames, READ_MAP, 70, 113, 0, CORWYSTAL_NO_MAP},
+    {"read_map", "in three layers", a_map_of_three_layers, READ_MAP, 0, 0, 0, CORWYSTAL_DONE},
+    {"read_map", "without pages", a_map_without_pages, READ_MAP, 0, 0, 0, CORWYSTAL_DONE},
+    {"read_map", "of no byte", a_map, READ_MAP, 0, 0, 136, CORWYSTAL_NO_MAP},
+    {"read_map", "cut in its contents", a_map, READ_MAP, 0, 0, 136 - 51, CORWYSTAL_NO_MAP},
+    {"read_map", "cut in its pool", a_map, READ_MAP, 0, 0, 4, CORWYSTAL_NO_MAP},
+    {"read_map", "cut in a word", a_map, READ_MAP, 0, 0, 1, CORWYSTAL_NO_MAP},
+    {"read_map", "with a word more", a_map, READ_MAP, 0, 0, (size_t)-4, CORWYSTAL_NO_MAP},
+    {"read_map", "of too many spaces", a_map, READ_MAP, 65, 1, 0, CORWYSTAL_NO_MAP},
+    {"read_map", "of too many pages", a_map, READ_MAP, UINT32_MAX, 2, 0, CORWYSTAL_NO_MAP},
+    {"read_map", "of no frame", a_map, READ_MAP, 0, 3, 0, CORWYSTAL_NO_MAP},
+    {"read_map", "of no page size", a_map, READ_MAP, 300, 4, 0, CORWYSTAL_NO_MAP},
+    {"read_map", "with a body elsewhere", a_map, READ_MAP, 14, 5, 0, CORWYSTAL_NO_MAP},
+    {"read_map", "with a body of another length", a_map, READ_MAP, 11, 6, 0, CORWYSTAL_NO_MAP},
+    {"read_map", "with another count of pages", a_map, READ_MAP, 4, 7, 0, CORWYSTAL_NO_MAP},
+    {"read_map", "with another count of frames", a_map, READ_MAP, 5, 13, 0, CORWYSTAL_NO_MAP},
+    {"read_map", "with a region of another length", a_map, READ_MAP, 31, 15, 0, CORWYSTAL_NO_MAP},
+    {"read_map", "with a region of no page", a_map, READ_MAP, 0, 15, 0, CORWYSTAL_NO_MAP},
+    {"read_map", "with a region cut", a_map, READ_MAP, 200, 16, 0, CORWYSTAL_NO_MAP},
+    {"read_map", "with a page outside", a_map, READ_MAP, 40, 17, 0, CORWYSTAL_NO_MAP},
+    {"read_map", "with a page twice", a_map, READ_MAP, 0, 19, 0, CORWYSTAL_NO_MAP},
+    {"read_map", "with a page before its region", a_map, READ_MAP, 7, 29, 0, CORWYSTAL_NO_MAP},
+    {"read_map", "with a frame twice", a_map, READ_MAP, 0, 34, 0, CORWYSTAL_NO_MAP},
+    {"read_map", "with a page's frame outside", a_map, READ_MAP, FRAMES, 18, 0, CORWYSTAL_NO_MAP},
+    {"read_map", "with a frame outside", a_map, READ_MAP, FRAMES, 34, 0, CORWYSTAL_NO_MAP},
+    {"read_map", "with a table too short", short_tables, READ_MAP, 0, 0, 0, CORWYSTAL_NO_SIZE},
     {"sizes", "", never_started, SIZES, 2, 0, 0, 0},
     {"sizes", "refused", never_started, SIZES, 65, 0, 0, 0},
 };
 
 enum { SCENES = sizeof scenes / sizeof scenes[0] };
 static const struct scene *scene;
+
+/* Number by number: what lies between them is nobody's. */
+static void keep_needs(corwystal_needs n) {
+    now.needs.refusal = n.refusal;
+    now.needs.index = n.index, now.needs.places = n.places, now.needs.link = n.link, now.needs.ram = n.ram, now.needs.map = n.map;
+}
 
 static corwystal_answer answer_of(const struct scene *s) {
     uint32_t page = (uint32_t)s->at;
@@ -270,7 +382,9 @@ static corwystal_answer answer_of(const struct scene *s) {
     case READ: return corwystal_board_read(&lent, s->space, s->at, now.bytes, s->n);
     case WRITE: return corwystal_board_write(&lent, s->space, s->at, now.bytes, s->n);
     case LIST: return corwystal_board_list(&lent, s->space, now.records, s->n);
-    default: now.needs = corwystal_sizes(s->space, 64, FRAMES, PAGE); return (corwystal_answer){0, 0, 0};
+    case WRITE_MAP: return corwystal_board_write_map(&lent, now.file, s->n);
+    case READ_MAP: return corwystal_board_read_map(&lent, now.file, map_len - s->n);
+    default: keep_needs(corwystal_sizes(s->space, 64, FRAMES, PAGE)); return (corwystal_answer){0, 0, 0};
     }
 }
 
@@ -295,6 +409,11 @@ static void note_absent(void) {
     span_first = (uint32_t)(scene->which == WRITE ? at / PAGE : at);
     span_pages = scene->which == TOUCH ? 1 : scene->which == WRITE && n ? (uint32_t)((at + n - 1) / PAGE - at / PAGE + 1) : 0;
     for (uint32_t k = 0; k < span_pages; k++) absent[k] = look_at(k).kind == CORWYSTAL_ABSENT;
+}
+
+static void spoil_map(void) {
+    uint32_t w = scene->space;
+    for (size_t k = 0; scene->which == READ_MAP && scene->at && k < 4; k++) now.file[4 * (scene->at - 1) + k] = (uint8_t)(w >> 8 * k);
 }
 
 static int ram_is_right(void) {
@@ -355,7 +474,7 @@ static void disturbed(const char *how, void (*way)(void)) {
 
 /* ---- each instruction that the call runs, as the traps tell it */
 
-enum { MOST_STEPS = 16384 };
+enum { MOST_STEPS = 65536 };
 static uint64_t steps[MOST_STEPS];
 static uint64_t many, inside, entry_stack, deepest;
 
@@ -406,12 +525,36 @@ static void with_interrupt(void) {
     interrupts_off();
 }
 
-static uint8_t met[16384]; /* instructions of the library at which an interrupt came, by their place */
+static uint8_t met[65536]; /* instructions of the library at which an interrupt came, by their place */
 
-/* The delays go up by one instruction: so interrupts come at the first, the second, .. instruction of the call. Answers how many were met in turn. */
+/* How many of the steps before this one and from it on are the same instruction again. */
+static uint64_t behind(uint64_t turn) {
+    uint64_t n = 0;
+    while (n < turn && steps[turn - n - 1] == steps[turn]) n++;
+    return n;
+}
+
+static uint64_t ahead(uint64_t turn) {
+    uint64_t n = 0;
+    while (turn + n + 1 < many && steps[turn + n + 1] == steps[turn]) n++;
+    return n;
+}
+
+/* How many turns of an instruction that repeats itself are passed over from this one on: of its first 64 and its last 16 none is. */
+static uint64_t passed(uint64_t turn) {
+    enum { FIRST = 64, LAST = 16 };
+    return behind(turn) == FIRST && ahead(turn) > LAST ? ahead(turn) - LAST : 0;
+}
+
+static uint64_t passed_over; /* of a scene's turns */
+
+/* The delays go up by one instruction: so interrupts come at the first, the second, .. instruction of the call. Answers how many turns it came to. */
 static uint64_t interrupt_each(void) {
     uint64_t turn = 0;
+    passed_over = 0;
     for (delay = 1; turn < many && delay < many + 400; delay++) {
+        uint64_t over = passed(turn);
+        turn += over, delay += (uint32_t)over, passed_over += over;
         disturbed("with an interrupt", with_interrupt);
         if (last_rip != steps[turn]) continue; /* before the call */
         if (in_library(last_rip)) met[last_rip - (uint64_t)pager_from] = 1;
@@ -426,6 +569,7 @@ static int play(const struct scene *s) {
     wrong = 0;
     s->prepare();
     soil();
+    spoil_map();
     now.head = lent.head;
     copy(&before, &now);
     note_absent();
@@ -450,9 +594,9 @@ static int play(const struct scene *s) {
     disturbed("with a stack off by 8", off_by_8);
     uint64_t otherwise = wrong;
     uint64_t turns = interrupt_each();
-    interrupts += turns;
+    interrupts += turns - passed_over;
     say("scene %s: %s: %u instructions, %u bytes of stack, %u interrupts, %u wrong, %u otherwise wrong\n", s->call, s->how, inside,
-        entry_stack - deepest + 8, turns, wrong - otherwise, otherwise);
+        entry_stack - deepest + 8, turns - passed_over, wrong - otherwise, otherwise);
     if (turns != many) say("sweep: %s %s: no interrupt at %u of its %u instructions\n", s->call, s->how, many - turns, many);
     if (!many || many == MOST_STEPS) say("sweep: %s %s: %u instructions can't be noted whole\n", s->call, s->how, many);
     return !wrong && turns == many && many && many < MOST_STEPS;

@@ -1,6 +1,6 @@
 //! Every method of the Rust module, accepted and refused, on memory full of garbage.
 use corwystal::{
-    Looked, Memory, Needs, Pager, Refusal, Refused, Region, Sizes, Touched, index_words,
+    Looked, Memory, Needs, Pager, Refusal, Refused, Region, Sizes, Touched, index_words, map_bytes,
 };
 
 const SIZES: Sizes = Sizes {
@@ -11,6 +11,11 @@ const SIZES: Sizes = Sizes {
 };
 
 const GARBAGE: u8 = 0x5a;
+
+// The map after the write over two pages: sizes, a row for each space and the pool, their bodies.
+const MAP: [u32; 26] = [
+    2, 40, 4, 256, 13, 5, 1, 18, 7, 2, 25, 1, 1, 10, 30, 1, 12, 0, 0, 40, 2, 0, 1, 1, 2, 3,
+];
 
 struct Buffers {
     index: Vec<u64>,
@@ -57,10 +62,30 @@ fn page(pager: &Pager<'_>, space: u32, page: usize) -> [u8; 256] {
     bytes
 }
 
+const NO_REGION: Refused = Refused {
+    refusal: Refusal::NoRegion,
+    words: 1,
+};
+
+// A pager that has just read the map: it writes the same bytes, and maps a new page to the one frame that is left.
+fn maps(pager: &mut Pager<'_>, map: &[u8]) {
+    let mut file = [0; 104];
+    assert_eq!(pager.write_map(&mut file), Ok(map));
+    assert_eq!(pager.free_count(), Ok(1));
+    assert_eq!(pager.look(0, 12), Ok(Looked::Resident { frame: 0 }));
+    assert_eq!(pager.look(1, 1), Ok(Looked::Resident { frame: 2 }));
+    assert_eq!(pager.look(1, 2), Ok(Looked::Absent { words: 1 }));
+    assert_eq!(pager.touch(1, 2), Ok(Touched::New { frame: 3, words: 1 }));
+    assert_eq!(page(pager, 1, 2), [0; 256]);
+    assert_eq!(pager.release(1, 0), Ok(3));
+    assert_eq!(pager.free_count(), Ok(3));
+}
+
 fn main() {
     let needs = SIZES.needs().expect("sizes within their limits");
     assert_eq!(needs.index, index_words(80));
     assert_eq!((needs.places, needs.link, needs.ram), (80, 4, 1024));
+    assert_eq!(needs.map, map_bytes(2, 80, 4));
     assert_eq!(Sizes { page: 300, ..SIZES }.needs(), None);
 
     // A start is refused for any buffer that is too short, also those that only later calls are lent.
@@ -146,6 +171,14 @@ fn main() {
     assert_eq!(records[1].start, 9);
     assert_eq!(pager.list(0, &mut []), Err(Refusal::NoRoom));
 
+    let map: Vec<u8> = MAP.iter().flat_map(|word| word.to_le_bytes()).collect();
+    let mut file = vec![GARBAGE; needs.map];
+    assert_eq!(pager.write_map(&mut file), Ok(&map[..]));
+    assert!(file[map.len()..].iter().all(|&byte| byte == GARBAGE));
+    let mut short = vec![GARBAGE; map.len() - 1];
+    assert_eq!(pager.write_map(&mut short), Err(Refusal::NoMapRoom));
+    assert!(short.iter().all(|&byte| byte == GARBAGE));
+
     assert_eq!(pager.release(1, 0), Ok(2));
     assert_eq!(pager.release(1, 1), Err(Refusal::NoStart));
     assert_eq!(pager.free_count(), Ok(3));
@@ -160,7 +193,44 @@ fn main() {
     assert_eq!(page(&pager, 0, 21), middle);
     assert_eq!(pager.free_count(), Ok(1));
     assert_eq!(pager.drop_start(1, 0), Ok(()));
-    for number in 1..=11 {
+
+    // A refused map leaves the pager; one that is read takes it back to where the map was written, with the RAM as it stands.
+    assert_eq!(pager.read_map(&map[..103]), Err(Refusal::NoMap));
+    assert_eq!(pager.read_map(&file), Err(Refusal::NoMap));
+    assert_eq!(pager.free_count(), Ok(1));
+    assert_eq!(pager.look(1, 0), Err(NO_REGION));
+    assert_eq!(pager.read_map(&map), Ok(()));
+    maps(&mut pager, &map);
+    let mut elsewhere = Buffers::new(needs);
+    let mut pager = Pager::from_map(elsewhere.memory(), &map).expect("a map");
+    assert_eq!(page(&pager, 1, 0), [GARBAGE; 256]);
+    maps(&mut pager, &map);
+
+    // Its sizes ask for buffers that are long enough, the RAM too; contents that are cut short come before that.
+    for short in 0..6 {
+        let mut shorter = Buffers::new(needs);
+        shorter.words[short].pop();
+        assert_eq!(
+            Pager::from_map(shorter.memory(), &map).err(),
+            Some(Refusal::Size)
+        );
+    }
+    let mut shorter = Buffers::new(needs);
+    shorter.ram.pop();
+    assert_eq!(
+        Pager::from_map(shorter.memory(), &map).err(),
+        Some(Refusal::Size)
+    );
+    assert_eq!(
+        Pager::from_map(shorter.memory(), &map[..51]).err(),
+        Some(Refusal::NoMap)
+    );
+    assert_eq!(
+        Pager::from_map(shorter.memory(), &[]).err(),
+        Some(Refusal::NoMap)
+    );
+
+    for number in 1..=13 {
         let said = REFUSALS[number - 1];
         assert_eq!(said.number() as usize, number);
         assert!(!said.to_string().is_empty());
@@ -168,7 +238,7 @@ fn main() {
     println!("bindings: every method of the Rust module answers as it should");
 }
 
-const REFUSALS: [Refusal; 11] = [
+const REFUSALS: [Refusal; 13] = [
     Refusal::Size,
     Refusal::NoSpace,
     Refusal::NoPage,
@@ -180,4 +250,6 @@ const REFUSALS: [Refusal; 11] = [
     Refusal::NotOurs,
     Refusal::NotResident,
     Refusal::NoRoom,
+    Refusal::NoMap,
+    Refusal::NoMapRoom,
 ];

@@ -23,6 +23,8 @@ void ignore(corwystal_board *b, corwystal_region *records, uint8_t *bytes) {
     corwystal_read(head, 0, 0, bytes, 1, TABLES, LENT(ram));
     corwystal_write(head, 0, 0, bytes, 1, TABLES, LENT(link), LENT(ram));
     corwystal_list(head, 0, records, 1, LENT(index), LENT(count));
+    corwystal_write_map(head, LENT(index), LENT(count), LENT(table), LENT(stack), LENT(link), bytes, 1);
+    corwystal_read_map(head, bytes, 1, TABLES, LENT(link));
     corwystal_board_start(b, 1, 8, 3, 256);
     corwystal_board_mark(b, 0, 0);
     corwystal_board_drop(b, 0, 0);
@@ -34,4 +36,6 @@ void ignore(corwystal_board *b, corwystal_region *records, uint8_t *bytes) {
     corwystal_board_read(b, 0, 0, bytes, 1);
     corwystal_board_write(b, 0, 0, bytes, 1);
     corwystal_board_list(b, 0, records, 1);
+    corwystal_board_write_map(b, bytes, 1);
+    corwystal_board_read_map(b, bytes, 1);
 }

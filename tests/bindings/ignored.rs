@@ -1,8 +1,9 @@
 //! What the Rust module answers ignored, one a line: rustc must warn of each. Compiled, never run.
-use corwystal::{Pager, Refusal, Region, Sizes, index_words};
+use corwystal::{Pager, Refusal, Region, Sizes, index_words, map_bytes};
 
 pub fn ignore(pager: &mut Pager<'_>, sizes: Sizes, bytes: &mut [u8], records: &mut [Region]) {
     index_words(8);
+    map_bytes(1, 8, 3);
     sizes.needs();
     Refusal::Size.number();
     pager.restart(sizes);
@@ -17,5 +18,7 @@ pub fn ignore(pager: &mut Pager<'_>, sizes: Sizes, bytes: &mut [u8], records: &m
     pager.read(0, 0, bytes);
     pager.write(0, 0, bytes);
     pager.list(0, records);
+    pager.write_map(bytes);
+    pager.read_map(bytes);
     pager.frame(0);
 }

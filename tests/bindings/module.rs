@@ -24,6 +24,8 @@ fn main() {
         Refusal::NotOurs,
         Refusal::NotResident,
         Refusal::NoRoom,
+        Refusal::NoMap,
+        Refusal::NoMapRoom,
     ] {
         println!("{refusal}");
     }

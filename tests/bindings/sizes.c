@@ -8,6 +8,7 @@ _Static_assert(CORWYSTAL_INDEX_WORDS(64) == 1, "T = 64 takes 1 word");
 _Static_assert(CORWYSTAL_INDEX_WORDS(65) == 3, "T = 65 takes 3");
 _Static_assert(CORWYSTAL_INDEX_WORDS(4097) == 68, "T = 4,097 takes 68");
 _Static_assert(CORWYSTAL_INDEX_WORDS(262144) == 4161, "T = 262,144 takes 4,161");
+_Static_assert(CORWYSTAL_MAP_BYTES(64, 262144, 65536) == 3670812, "the longest map");
 _Static_assert(sizeof(corwystal_head) == 28, "seven 32-bit numbers");
 _Static_assert(sizeof(corwystal_answer) == 16, "two 32-bit numbers and one of 64 bits");
 _Static_assert(sizeof(corwystal_region) == 12, "three 32-bit numbers");
@@ -17,16 +18,17 @@ static int wrong;
 static void accepted(uint32_t spaces, uint32_t pages, uint32_t frames, uint32_t page) {
     corwystal_needs n = corwystal_sizes(spaces, pages, frames, page);
     size_t t = (size_t)spaces * pages;
-    if (n.refusal || n.index != CORWYSTAL_INDEX_WORDS(t) || n.places != t || n.link != frames || n.ram != (size_t)frames * page) {
-        printf("sizes %u %u %u %u: refusal %u, index %zu, places %zu, link %zu, ram %zu\n", spaces, pages, frames, page, n.refusal, n.index,
-               n.places, n.link, n.ram);
+    if (n.refusal || n.index != CORWYSTAL_INDEX_WORDS(t) || n.places != t || n.link != frames || n.ram != (size_t)frames * page ||
+        n.map != CORWYSTAL_MAP_BYTES(spaces, t, frames)) {
+        printf("sizes %u %u %u %u: refusal %u, index %zu, places %zu, link %zu, ram %zu, map %zu\n", spaces, pages, frames, page, n.refusal,
+               n.index, n.places, n.link, n.ram, n.map);
         wrong = 1;
     }
 }
 
 static void refused(uint32_t spaces, uint32_t pages, uint32_t frames, uint32_t page) {
     corwystal_needs n = corwystal_sizes(spaces, pages, frames, page);
-    if (n.refusal != 1 || n.index || n.places || n.link || n.ram) {
+    if (n.refusal != 1 || n.index || n.places || n.link || n.ram || n.map) {
         printf("sizes %u %u %u %u: not refused\n", spaces, pages, frames, page);
         wrong = 1;
     }

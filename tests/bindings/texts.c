@@ -16,7 +16,7 @@ static const char *text_of(uint32_t kind) {
 }
 
 int main(void) {
-    for (uint32_t kind = CORWYSTAL_NO_SIZE; kind <= CORWYSTAL_NO_ROOM; kind++) {
+    for (uint32_t kind = CORWYSTAL_NO_SIZE; kind <= CORWYSTAL_NO_MAP_ROOM; kind++) {
         puts(text_of(kind));
         /* every other kind, those that no call answers too */
         for (uint32_t other = 0; other <= 64; other++)
@@ -25,7 +25,7 @@ int main(void) {
                 wrong = 1;
             }
     }
-    for (uint32_t kind = CORWYSTAL_DONE; kind <= CORWYSTAL_REGIONS; kind++)
+    for (uint32_t kind = CORWYSTAL_DONE; kind <= CORWYSTAL_MAP; kind++)
         if (strcmp(text_of(kind), "done") != 0) {
             fprintf(stderr, "texts: kind %u is no refusal, and its text is: %s\n", kind, text_of(kind));
             wrong = 1;

@@ -1,7 +1,7 @@
 #!/usr/bin/env bash
 # Runs the collector board of examples/board under emulation: an interrupt at each instruction of each call, and a day of readings with one in each call. Both
 # are tried on libraries that no kernel can have, where they must go wrong.
-#     tests/board/run.sh            for the gate, some ten seconds; QEMU is installed if it can be, else this is left out and says so
+#     tests/board/run.sh            for the gate, some twenty seconds; QEMU is installed if it can be, else this is left out and says so
 #     tests/board/run.sh broken     the day itself, on boards that are wrong in one way each (broken.c)
 set -euo pipefail
 here=$(cd "$(dirname "${BASH_SOURCE[0]}")" && pwd)

@@ -1,4 +1,5 @@
-"""Holds what was counted to the aims of bench/aims.py: hold.py COUNTS WORKLOAD, folders of callgrind's dumps of bench/count and bench/workload.
+"""Holds what was counted to the aims of bench/aims.py: hold.py COUNTS WORKLOAD MAPS, folders of callgrind's dumps of bench/count, bench/workload and
+bench/maps.
 
 An aim that the library misses, or meets by far, stands in HELD with what is held instead, in hundredths, just above what was counted. When a call has
 become faster, bring its number down; when its aim is just met, take its line out, and the aim itself is held. A bound is never brought up without a
@@ -30,6 +31,38 @@ HELD = {
     # by vector stores a memset of a page is 247 instructions, and C without checks takes 2.00 x these: docs/MEASUREMENTS.md has the times
     ("write of 16 bytes into a new page", "plain"): 227,            # 226.3, aim 130
 }
+# The same of the map file's two calls, each file for itself: held against C with the checks by gcc and by clang, where the aim is 200. memset's
+# instructions count by aims.scale; where it is the processor's block store, the files of about 1 KiB come out up to 1.3 hundredths off these.
+MAPS = {
+    # call and file, bytes: held by gcc, by clang   counted on 2026-11-17
+    ("read map regions", 972): (133, 150),          # 132.2 and 149.1
+    ("read map regions", 15132): (138, 156),        # 137.0 and 154.9
+    ("read map regions", 230172): (138, 157),       # 137.5 and 156.9
+    ("read map regions", 3670812): (142, 162),      # 141.3 and 161.3
+    ("read map pairs", 948): (163, 189),            # 161.6 and 187.4
+    ("read map pairs", 16436): (163, 191),          # 162.5 and 190.4
+    ("read map pairs", 262196): (165, 194),         # 164.6 and 193.1
+    ("read map pairs", 524340): (97, 104),          # 96.8 and 103.8
+    ("read map pool", 1000): (109, 141),            # 108.5 and 140.8
+    ("read map pool", 16424): (104, 139),           # 102.9 and 138.8
+    ("read map pool", 262184): (108, 146),          # 107.2 and 145.0
+    ("read map board", 1084): (149, 175),           # 148.5 and 174.3
+    ("read map board", 406300): (148, 180),         # 147.7 and 179.2
+    ("write map regions", 972): (129, 162),         # 128.8 and 161.2
+    ("write map regions", 15132): (130, 164),       # 129.6 and 163.7
+    ("write map regions", 230172): (135, 174),      # 134.0 and 173.7
+    ("write map regions", 3670812): (135, 175),     # 134.3 and 174.3
+    ("write map pairs", 948): (168, 166),           # 167.1 and 165.7
+    ("write map pairs", 16436): (182, 181),         # 181.9 and 180.8
+    ("write map pairs", 262196): (183, 182),        # 182.8 and 181.8
+    ("write map pairs", 524340): (186, 183),        # 185.8 and 181.9
+    ("write map pool", 1000): (120, 136),           # 119.1 and 135.5
+    ("write map pool", 16424): (108, 132),          # 107.2 and 131.1
+    ("write map pool", 262184): (107, 131),         # 106.3 and 130.8
+    ("write map board", 1084): (131, 129),          # 130.3 and 128.2
+    ("write map board", 406300): (155, 162),        # 154.4 and 160.9
+}
+HELD |= {(f"{what} of {size:,} bytes", engine): most for (what, size), both in MAPS.items() for engine, most in zip(("checked", "clang_checked"), both)}
 # What is held beside the aims: hundredths of the same work by another engine, and which functions do it.
 BESIDE = [
     ("start", 0, "corwystal_start", "plain", "plain_clear", 101),
@@ -41,9 +74,11 @@ WHOLE = (4096, 65536, 1 << 20)  # bytes: a write of whole new pages stores each 
 
 
 def main():
-    counts, played = (aims.dumps(folder) for folder in sys.argv[1:3])
+    counts, played, mapped = (aims.dumps(folder) for folder in sys.argv[1:4])
+    counts |= mapped
     failed, notes, left, missed = [], [], dict(HELD), 0
-    held = [(aim, engine, most, aims.ratio(counts, aim, engine)) for aim in aims.AIMS for engine, most in aim.most.items()]
+    files = [aim._replace(name=f"{case[0]} of {case[1]:,} bytes", cases=[case]) for aim in aims.MAPS for case in aim.cases]
+    held = [(aim, engine, most, aims.ratio(counts, aim, engine)) for aim in aims.AIMS + files for engine, most in aim.most.items()]
     held += [(aims.SMALL, engine, most, aims.page_ratio(counts)) for engine, most in aims.SMALL.most.items()]
     held += [(aims.WORKLOAD, engine, most, aims.workload_ratio(played, engine)) for engine, most in aims.WORKLOAD.most.items()]
     for aim, engine, most, ratio in held:

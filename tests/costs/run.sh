@@ -17,9 +17,11 @@ counted() { # FOLDER PROGRAM WORDS..
 }
 
 bindings/library
-bench/build "$made" target/bindings/libcorwystal.a check count workload
+bench/build "$made" target/bindings/libcorwystal.a check count workload maps
 "$made/check"
+"$made/maps" check
 counted "$made/counts" "$made/count"
 counted "$made/some" "$made/workload" some 100000
-python3 tests/costs/hold.py "$made/counts" "$made/some"
+counted "$made/mapped" "$made/maps" count
+python3 tests/costs/hold.py "$made/counts" "$made/some" "$made/mapped"
 bash tests/costs/lines.sh

@@ -11,11 +11,13 @@ a kernel has no dynamic linker, no C library but memmove and memset, and may cal
     that wants its operand aligned);
   - no use of memory below the stack pointer: every path through the function is followed, with the stack pointer and each register that holds an
     address of the stack; what can't be followed (a computed jump, an aligned or unknown stack pointer) is a fault too. An address of the stack that
-    goes through memory or to a callee is not followed there: it is looked at when it is made, and must then be at the stack pointer or above it;
+    goes through memory or to a callee is not followed there: it is looked at when it is made, and must then be at the stack pointer or above it. An
+    index into an array on the stack, which is a number from 0 on, is taken to lead upwards;
 of each exported one, with all that it calls:
   - no call of memmove or memset but those of MAY_CALL, so that no head goes through memory by one; and those copy the caller's bytes and clear what
     it lent only. A copy or a fill of a record, such as a head, differs from these in one of two ways: it goes to or from the function's own stack, or
-    its length is a constant. Both are followed to the call, the constant through registers; either on any path is a fault;
+    its length is a constant. Both are followed to the call, the constant through registers; either on any path is a fault, but for a fill of the
+    function's own stack in those of MAY_CLEAR_OWN;
   - no loop but in those of MAY_LOOP: a jump back is one if control can come from its target to it again (others lead to a common end);
 and of the library: no writable data, no thread's or constructors' sections, no relocation but R_X86_64_PLT32, no undefined name but memmove and memset.
 The bytes of stack of a function are those below its caller's stack pointer at the call: its return address, its frame and the deepest of its callees.
@@ -24,12 +26,16 @@ memmove and memset are counted with their return address alone. The instructions
 import re
 import subprocess
 import sys
+from collections import namedtuple
 
 KERNEL_HAS = {"memmove", "memset"}
 # What an exported function may call of these, itself or by what it calls. All others: nothing.
-MAY_CALL = {"corwystal_start": {"memset"}, "corwystal_touch": {"memset"}, "corwystal_read": {"memmove"}, "corwystal_write": {"memmove", "memset"}}
+MAY_CALL = {"corwystal_start": {"memset"}, "corwystal_touch": {"memset"}, "corwystal_read": {"memmove"}, "corwystal_write": {"memmove", "memset"},
+            "corwystal_read_map": {"memset"}}
+# Exported functions that keep a set of numbers on their stack, so many that it is cleared by memset.
+MAY_CLEAR_OWN = {"corwystal_read_map"}
 # Exported functions that go over regions or pages. All others: no loop, so a longest path, whatever the memory.
-MAY_LOOP = {"corwystal_list", "corwystal_read", "corwystal_write"}
+MAY_LOOP = {"corwystal_list", "corwystal_read", "corwystal_write", "corwystal_write_map", "corwystal_read_map"}
 WIDTHS = {
     "rax": "eax ax al ah", "rbx": "ebx bx bl bh", "rcx": "ecx cx cl ch", "rdx": "edx dx dl dh",
     "rsi": "esi si sil", "rdi": "edi di dil", "rbp": "ebp bp bpl", "rsp": "esp sp spl",
@@ -48,6 +54,7 @@ KEEPS = {"cmp", "test", "bt"}  # these change no register
 FIXED = {"mul": {"rax", "rdx"}, "div": {"rax", "rdx"}, "cltq": {"rax"}, "cwtl": {"rax"}, "cltd": {"rdx"}, "cqto": {"rdx"}}
 CALL_CHANGES = {"rax", "rcx", "rdx", "rsi", "rdi", "r8", "r9", "r10", "r11"}
 LOST = "lost"  # an address of the stack, nobody knows which
+Above = namedtuple("Above", "offset")  # an address of the stack at this offset or above it: one in an array, by an index
 
 MEMORY = re.compile(r"^(?:%[a-z]s:)?(?P<shift>-?0x[0-9a-f]+|-?\d+)?\((?P<base>%\w+)?(?:,(?P<index>%\w+)(?:,\d)?)?\)$")
 
@@ -93,7 +100,8 @@ def functions_of(library):
 
 class Walk:
     """One function, followed along every path. State: for the stack pointer and each register its offset from the stack pointer at entry, if
-    it holds an address of the stack; and under "#" and its name the constant that a register holds, LOST for one of several or one on some paths."""
+    it holds an address of the stack, or Above that offset; and under "#" and its name the constant that a register holds, LOST for one of several
+    or one on some paths."""
 
     def __init__(self, function, faults):
         self.f, self.faults = function, faults
@@ -145,9 +153,10 @@ class Walk:
             if uses:
                 self.fault(at, "an address of the stack that can't be followed")
             return LOST
-        if held + shift < state["rsp"]:
+        lowest = (held.offset if isinstance(held, Above) else held) + shift
+        if lowest < state["rsp"]:
             self.fault(at, "memory below the stack pointer")
-        return LOST if index else held + shift
+        return Above(lowest) if index or isinstance(held, Above) else lowest
 
     def deeper(self, state, n):
         state["rsp"] -= n
@@ -238,7 +247,7 @@ class Walk:
         return None
 
     def result(self, plain, words, place, state):
-        """What a register holds after an instruction that changes it: an offset, LOST or None."""
+        """What a register holds after an instruction that changes it: an offset, Above one, LOST or None."""
         source, target = words[0], WHOLE.get(words[-1][1:])
         of = lambda word: state.get(WHOLE.get(word[1:])) if word.startswith("%") else None
         if plain == "lea":
@@ -247,10 +256,11 @@ class Walk:
             return of(source)
         if plain.startswith("cmov"):
             return state.get(target) if of(source) == state.get(target) else LOST
-        if plain in ("add", "sub") and source.startswith("$") and isinstance(state.get(target), int):
+        if plain in ("add", "sub") and source.startswith("$") and isinstance(state.get(target), (int, Above)):
             n = int(source[1:], 0)
             n -= (n >> 63) << 64
-            return state[target] + (n if plain == "add" else -n)
+            n = n if plain == "add" else -n
+            return Above(state[target].offset + n) if isinstance(state[target], Above) else state[target] + n
         if plain == "xor" and source == words[-1]:
             return None
         return LOST if state.get(target) is not None or of(source) is not None else None
@@ -354,7 +364,7 @@ def copies(name, walks, by_target, faults):
         for at, target in walk.f.reaches.items():
             if target not in by_target and target not in MAY_CALL.get(name, ()):
                 faults.add(f"{name}: a call of {target}, at {f}+{at:#x}")
-            elif at in walk.records:
+            elif at in walk.records and not (walk.records[at].startswith("a fill to") and name in MAY_CLEAR_OWN):
                 faults.add(f"{name}: {walk.records[at]}, so of nothing that the caller lent, at {f}+{at:#x}")
 
 

@@ -18,6 +18,7 @@ static uint64_t index_words[CORWYSTAL_INDEX_WORDS(PLACES)];
 static uint32_t count[PLACES], table[PLACES], helper[PLACES], stack[PLACES], cache[PLACES], links[FRAMES];
 static uint8_t ram[SPAN], bytes[SPAN];
 static corwystal_region records[4];
+static uint8_t file[CORWYSTAL_MAP_BYTES(1, PLACES, FRAMES)];
 
 static corwystal_board b;
 
@@ -98,6 +99,37 @@ static void damaged(void) { pages(), b.head.many = UINT32_MAX; }
 static void shorter(void) { pages(), b.count_len--; }
 
 static void less_ram(void) { pages(), b.ram_len--; }
+
+/* A map in the file, of one of the situations above; before its tables are again as in `left`, with garbage elsewhere. */
+static size_t file_len;
+
+static void map_of(void (*situation)(void))
+{
+    situation();
+    corwystal_answer a = corwystal_board_write_map(&b, file, sizeof file);
+    READY(a);
+    file_len = (size_t)a.value;
+    left();
+}
+
+static void small_map(void) { map_of(small); }
+
+static void pages_map(void) { map_of(pages); }
+
+static void full_map(void) { map_of(full); }
+
+static void three_map(void) { map_of(three); }
+
+/* Less than contents; less than all of it; more; and the pool's last frame is one that a page holds. */
+static void no_contents(void) { pages_map(), file_len = 39; }
+
+static void cut_map(void) { pages_map(), file_len -= 4; }
+
+static void long_map(void) { pages_map(), file_len += 4; }
+
+static void twice_map(void) { pages_map(), memset(file + file_len - 4, 0, 4); }
+
+static void short_map(void) { pages_map(), b.count_len--; }
 
 /* ---- the situations: call, name, what stands before, the kind of its answer, and the call as it is made */
 
@@ -181,6 +213,25 @@ static void less_ram(void) { pages(), b.ram_len--; }
     IS(list, three regions, three, CORWYSTAL_REGIONS, corwystal_board_list(&b, 0, records, 4))                                                 \
     IS(list, no room, three, CORWYSTAL_NO_ROOM, corwystal_board_list(&b, 0, records, 2))                                                       \
     IS(list, no space, three, CORWYSTAL_NO_SPACE, corwystal_board_list(&b, 1, records, 4))                                                     \
+    IS(write_map, no region, empty, CORWYSTAL_MAP, corwystal_board_write_map(&b, file, sizeof file))                                           \
+    IS(write_map, three pages, pages, CORWYSTAL_MAP, corwystal_board_write_map(&b, file, sizeof file))                                         \
+    IS(write_map, three regions, three, CORWYSTAL_MAP, corwystal_board_write_map(&b, file, sizeof file))                                       \
+    IS(write_map, all frames, full, CORWYSTAL_MAP, corwystal_board_write_map(&b, file, sizeof file))                                           \
+    IS(write_map, used frames, used, CORWYSTAL_MAP, corwystal_board_write_map(&b, file, sizeof file))                                          \
+    IS(write_map, small, small, CORWYSTAL_MAP, corwystal_board_write_map(&b, file, sizeof file))                                               \
+    IS(write_map, no room, pages, CORWYSTAL_NO_MAP_ROOM, corwystal_board_write_map(&b, file, 39))                                              \
+    IS(write_map, damaged, damaged, CORWYSTAL_NOT_OURS, corwystal_board_write_map(&b, file, sizeof file))                                      \
+    IS(write_map, too short, shorter, CORWYSTAL_NO_SIZE, corwystal_board_write_map(&b, file, sizeof file))                                     \
+    IS(write_map, never, never, CORWYSTAL_NO_SIZE, corwystal_board_write_map(&b, file, sizeof file))                                           \
+    IS(read_map, small, small_map, CORWYSTAL_DONE, corwystal_board_read_map(&b, file, file_len))                                               \
+    IS(read_map, three pages, pages_map, CORWYSTAL_DONE, corwystal_board_read_map(&b, file, file_len))                                         \
+    IS(read_map, all frames, full_map, CORWYSTAL_DONE, corwystal_board_read_map(&b, file, file_len))                                           \
+    IS(read_map, three regions, three_map, CORWYSTAL_DONE, corwystal_board_read_map(&b, file, file_len))                                       \
+    IS(read_map, no contents, no_contents, CORWYSTAL_NO_MAP, corwystal_board_read_map(&b, file, file_len))                                     \
+    IS(read_map, cut, cut_map, CORWYSTAL_NO_MAP, corwystal_board_read_map(&b, file, file_len))                                                 \
+    IS(read_map, too long, long_map, CORWYSTAL_NO_MAP, corwystal_board_read_map(&b, file, file_len))                                           \
+    IS(read_map, a frame twice, twice_map, CORWYSTAL_NO_MAP, corwystal_board_read_map(&b, file, file_len))                                     \
+    IS(read_map, too short, short_map, CORWYSTAL_NO_SIZE, corwystal_board_read_map(&b, file, file_len))                                        \
     IS(sizes, accepted, empty, 0, sizes(1, PLACES, FRAMES, PAGE))                                                                              \
     IS(sizes, small, empty, 0, sizes(1, 64, FRAMES, PAGE))                                                                                     \
     IS(sizes, no size, empty, CORWYSTAL_NO_SIZE, sizes(1, PLACES, FRAMES, PAGE + 1))

@@ -35,7 +35,7 @@ memset:
         .size   memset, . - memset
 
 #ifdef PAINT
-        .set    DEPTH, 8192     /* bytes that are painted, more than any call may use */
+        .set    DEPTH, 16384    /* bytes that are painted, more than any call may use */
 
         .globl  paint, painted_over
         .local  back
@@ -79,7 +79,7 @@ __wrap_corwystal_\call:
         jmp     painted
         .endr
         .endm
-        by_way_of_painted start, mark, drop, touch, look, release, free_count, translate, read, write, list, sizes
+        by_way_of_painted start, mark, drop, touch, look, release, free_count, translate, read, write, list, write_map, read_map, sizes
 
         .globl  deep_104
         .type   deep_104, @function

@@ -89,10 +89,10 @@ outdated "$made/calls" "$made/old.md" 'tells other numbers than the library'
 outdated "$made/unclear" docs/KERNEL.md 'touch calls neither memmove nor memset'
 
 # A copy of bytes is a call of memmove, and a new page is cleared by a call of memset: without a frame for the page that the source names.
-for call in 'read memmove' 'write memmove memset' 'touch memset'; do
+for call in 'read memmove' 'write memmove memset' 'touch memset' 'read_map memset'; do
     grep -qE "^corwystal_${call%% *} [0-9]+ [0-9-]+ ${call#* }\$" "$made/calls" || fail "${call%% *} copies or clears without ${call#* }"
 done
-awk '$2 > 1024 { exit 1 }' "$made/calls" || fail "a call has a frame of more than 1,024 bytes"
+awk '$2 > ($1 == "corwystal_read_map" ? 12288 : 1024) { exit 1 }' "$made/calls" || fail "a call uses more than 1,024 bytes of stack, or read_map than 12 KiB"
 
 # What the compiler does when nobody tells it of kernels is found.
 bash tests/careless.sh
@@ -105,6 +105,8 @@ f 'movq %rax, -8(%rsp)' 'ret' | wrong red_zone 'memory below the stack pointer'
 f 'mov %rsp, %rdi' 'movq $1, -16(%rdi)' 'ret' | wrong red_zone_by_another_register 'memory below the stack pointer'
 f 'push %rbp' 'mov %rsp, %rbp' 'movl $1, -4(%rbp)' 'pop %rbp' 'ret' | wrong red_zone_by_frame_pointer 'memory below the stack pointer'
 f 'lea -32(%rsp), %rdi' 'jmp memset@PLT' | wrong red_zone_lent 'memory below the stack pointer'
+f 'sub $40, %rsp' 'lea (%rsp,%rdi,8), %rax' 'sub $16, %rax' 'mov %rdi, (%rax)' 'add $40, %rsp' 'ret' | wrong red_zone_by_index 'memory below the stack pointer'
+f 'sub $40, %rsp' 'lea (%rsp,%rdi,8), %rax' 'and $-32, %rax' 'movq $1, (%rax)' 'add $40, %rsp' 'ret' | wrong aligned_index "that can't be followed"
 f 'sub $8, %rsp' 'test %edi, %edi' 'je 1f' 'add $8, %rsp' '1: movq $1, -8(%rsp)' 'ret' | wrong two_depths 'the stack pointer depends on the path'
 f 'push %rbp' 'mov %rsp, %rbp' 'and $-32, %rsp' 'mov %rbp, %rsp' 'pop %rbp' 'ret' | wrong aligned_frame "a stack pointer that can't be followed"
 f 'pxor %xmm0, %xmm0' 'ret' | wrong vector_register 'register xmm0'
@@ -140,6 +142,8 @@ named corwystal_read 'test %edi, %edi' 'je 1f' 'mov $28, %edx' '1: jmp memmove@P
 named corwystal_touch 'sub $40, %rsp' 'mov %rsp, %rdi' 'call memset@PLT' 'add $40, %rsp' 'ret' | wrong fill_of_the_stack 'a fill to or from the stack'
 by_callee corwystal_write 'mov $256, %edx' 'jmp memset@PLT' | wrong fill_of_a_record 'a fill with a length that is a constant'
 named corwystal_start 'mov $28, %edx' 'jmp memset@PLT' | wrong fill_of_a_head 'a fill with a length that is a constant'
+named corwystal_write_map 'jmp memset@PLT' | wrong map_clears 'corwystal_write_map: a call of memset'
+named corwystal_read_map 'mov $28, %edx' 'jmp memset@PLT' | wrong fill_of_a_map_head 'a fill with a length that is a constant'
 named corwystal_release '1: dec %edi' 'jne 1b' 'ret' | wrong loop 'corwystal_release: a loop, by the jump back to 0x0'
 named corwystal_free_count 'jmp 2f' '1: dec %edi' '2: test %edi, %edi' 'jne 1b' 'ret' | wrong loop_from_its_middle 'corwystal_free_count: a loop'
 named corwystal_drop '1: jmp 1b' | wrong endless 'corwystal_drop: a loop'
@@ -147,6 +151,8 @@ by_callee corwystal_touch '1: shr %rdi' 'jne 1b' 'ret' | wrong loop_below 'corwy
 named corwystal_release 'jmp 2f' '1: ret' '2: test %edi, %edi' 'je 1b' 'mov $28, %edx' 'jmp 1b' | right jumps_back
 named corwystal_read 'mov $28, %edx' 'mov %r9, %rdx' 'jmp memmove@PLT' | right copies_bytes
 named corwystal_read '1: dec %edi' 'jne 1b' 'ret' | right may_loop
+f 'sub $40, %rsp' 'lea (%rsp,%rdi,8), %rax' 'add $8, %rax' 'movq $1, (%rax)' 'movq $1, 8(%rax,%rsi,8)' 'add $40, %rsp' 'ret' | right array_on_the_stack
+by_callee corwystal_read_map 'sub $72, %rsp' 'lea 8(%rsp), %rdi' 'mov $64, %edx' 'call memset@PLT' 'add $72, %rsp' 'ret' | right clears_its_set
 by_callee corwystal_touch 'mov $1, %edx' 'shl %cl, %rdx' 'jmp memset@PLT' | right clears_a_page
 grep -qx 'corwystal_touch 24 7 memset' "$made/told" || fail "a call of memset by a callee is not told: $(cat "$made/told")"
 named corwystal_write 'push %rbx' 'mov %r9, %rdx' 'call memset@PLT' 'mov %rbx, %rdx' 'call memmove@PLT' 'pop %rbx' 'ret' | right clears_and_copies

@@ -28,6 +28,8 @@ REMARKS = {
     "write": "{a byte} for a byte, {all frames each} for each page more, and a `memmove`; for each new page a touch more, "
              "and a `memset` of its rest",
     "list": "two finds for each region: too long to hold interrupts off",
+    "write_map": "{three pages} for a region with three pages and {frames} frames in the largest space: too long to hold interrupts off",
+    "read_map": "{three pages} for that map, and a `memset` of counts, index and its own set of numbers: too long to hold interrupts off",
     "sizes": "",
 }
 HEAD = ["Call", "Stack at most", "Instructions at most", "Stack met", "Instructions met", ""]
@@ -74,6 +76,8 @@ def main():
                 wrong.append(f"object: {call}, {situation}: {ran} instructions met, and {longest} read off the object code: see longest_of in inspect.py")
 
     def figure(call, name):
+        if name == "frames":
+            return str(FRAMES)
         if name.endswith(" each"):
             return f"{(counts[call][name.removesuffix(' each')] - counts[call]['a page']) / (FRAMES - 1):.0f}"
         return f"{counts[call][name]:,}"

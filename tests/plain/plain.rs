@@ -1,7 +1,8 @@
 // The plain machine of document 01, for the programs of tests/ that say what the pager must answer.
-// Written from the document alone, whose words stand in quotation marks, and from request W-201 of
-// document 02, by which a new page reads as zeros: a set of starts, for each region a list of pages
-// and frames, the pool as a list, the RAM. No table, no index, no layer.
+// Written from the document alone, whose words stand in quotation marks, and from requests W-201 and
+// W-202 of document 02, by which a new page reads as zeros and the state goes to a map file: a set of
+// starts, for each region a list of pages and frames, the pool as a list, the RAM. No table, no index,
+// no layer.
 #![allow(dead_code)]
 use std::collections::{BTreeMap, BTreeSet, HashMap, VecDeque};
 use std::ops::Range;
@@ -115,6 +116,8 @@ pub enum Ask {
     Write(u64, u64, Vec<u8>),
     // space, records
     List(u64, u64),
+    // the bytes of the file's buffer
+    WriteMap(u64),
 }
 
 pub struct Call {
@@ -134,12 +137,13 @@ impl Ask {
             // W-201: "1 also when the RAM lent to touch is too short", of a resident page too
             Ask::Touch(..) | Ask::Write(..) => [1; 8],
             Ask::List(..) => [1, 1, 0, 0, 0, 0, 0, 0],
+            Ask::WriteMap(_) => [1, 1, 1, 0, 1, 0, 1, 0],
         }
     }
 
     pub fn space(&self) -> Option<u64> {
         match *self {
-            Ask::Start(_) | Ask::Free => None,
+            Ask::Start(_) | Ask::Free | Ask::WriteMap(_) => None,
             Ask::Mark(space, _) | Ask::Drop(space, _) | Ask::Touch(space, _) => Some(space),
             Ask::Look(space, _) | Ask::Release(space, _) => Some(space),
             Ask::Translate(space, _) | Ask::Read(space, _, _) => Some(space),
@@ -154,7 +158,7 @@ impl Ask {
             end.is_some_and(|end| end <= sizes.space_bytes())
         };
         match self {
-            Ask::Start(_) | Ask::Free | Ask::List(..) => true,
+            Ask::Start(_) | Ask::Free | Ask::List(..) | Ask::WriteMap(_) => true,
             Ask::Mark(_, page) | Ask::Drop(_, page) | Ask::Touch(_, page) => *page < sizes.pages,
             Ask::Look(_, page) | Ask::Release(_, page) => *page < sizes.pages,
             Ask::Translate(_, address) => *address < sizes.space_bytes(),
@@ -217,16 +221,21 @@ pub enum Answer {
     At(u64),
     Bytes(Vec<u8>),
     Regions(Vec<Region>),
+    // the file
+    Map(Vec<u8>),
     // number, and index words for touch and look
     Refused(u64, Option<u64>),
 }
 
+fn hex(bytes: &[u8]) -> String {
+    bytes.iter().map(|b| format!("{b:02x}")).collect()
+}
+
 fn bytes_line(bytes: &[u8]) -> String {
-    let hex: String = bytes.iter().map(|b| format!("{b:02x}")).collect();
-    if hex.is_empty() {
+    if bytes.is_empty() {
         "bytes".to_string()
     } else {
-        format!("bytes {hex}")
+        format!("bytes {}", hex(bytes))
     }
 }
 
@@ -252,6 +261,7 @@ impl Answer {
             Answer::At(place) => format!("at {place}"),
             Answer::Bytes(bytes) => bytes_line(bytes),
             Answer::Regions(regions) => regions_line(regions),
+            Answer::Map(file) => format!("map {}", hex(file)),
             Answer::Refused(number, None) => format!("no {number}"),
             Answer::Refused(number, Some(words)) => format!("no {number} {words}"),
         }
@@ -353,6 +363,7 @@ impl Machine {
             Ask::Read(space, address, count) => self.read(space, address, count),
             Ask::Write(space, address, ref bytes) => self.write(space, address, bytes),
             Ask::List(space, room) => self.list(space, room),
+            Ask::WriteMap(room) => self.write_map(room),
         }
     }
 
@@ -553,6 +564,14 @@ impl Machine {
 
     // "one record a region (start, length, resident pages), ascending"
     fn list(&self, space: u64, room: u64) -> Answer {
+        let regions = self.regions_of(space);
+        if room < regions.len() as u64 {
+            return Answer::Refused(11, None);
+        }
+        Answer::Regions(regions)
+    }
+
+    fn regions_of(&self, space: u64) -> Vec<Region> {
         let first = self.sizes.place(space, 0);
         let mut end = self.sizes.place(space + 1, 0);
         let mut regions = Vec::new();
@@ -564,10 +583,61 @@ impl Machine {
             });
             end = start;
         }
-        if room < regions.len() as u64 {
-            return Answer::Refused(11, None);
-        }
         regions.reverse();
-        Answer::Regions(regions)
+        regions
+    }
+
+    // ---- W-202: "A map file I can carry home"
+
+    // "A space's body is, for each region ascending: start, length, resident count, then page and frame
+    // pairs in mapping order."
+    fn body(&self, space: u64) -> Vec<u64> {
+        let first = self.sizes.place(space, 0);
+        let mut body = Vec::new();
+        for region in self.regions_of(space) {
+            body.extend([region.start, region.length, region.resident]);
+            for (place, frame) in self.list_of(first + region.start) {
+                body.extend([place - first, *frame]);
+            }
+        }
+        body
+    }
+
+    // "Contents: S, N, F, P, then for each space and last for the pool three words: where its body starts
+    // .., its length in words, and its resident pages (for the pool, its length) .. Bodies follow in order
+    // with no gaps."
+    pub fn map_file(&self) -> Vec<u8> {
+        let Sizes {
+            spaces,
+            pages,
+            frames,
+            page,
+        } = self.sizes;
+        let mut words = vec![spaces, pages, frames, page];
+        let mut bodies = Vec::new();
+        let mut at = 4 + 3 * (spaces + 1);
+        let mut add = |body: Vec<u64>, third: u64| {
+            words.extend([at, body.len() as u64, third]);
+            at += body.len() as u64;
+            bodies.extend(body);
+        };
+        for space in 0..spaces {
+            let resident = self.regions_of(space).iter().map(|r| r.resident).sum();
+            add(self.body(space), resident);
+        }
+        // "The pool's body is its frames in order."
+        add(self.pool.iter().copied().collect(), self.pool.len() as u64);
+        words.extend(bodies);
+        let bytes = words.iter().flat_map(|word| (*word as u32).to_le_bytes());
+        bytes.collect()
+    }
+
+    // "13, buffer too short for the file, last"
+    fn write_map(&self, room: u64) -> Answer {
+        let file = self.map_file();
+        if room < file.len() as u64 {
+            return Answer::Refused(13, None);
+        }
+        Answer::Map(file)
     }
 }

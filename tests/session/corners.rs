@@ -32,6 +32,8 @@ const EARLY: &[(&str, &str)] = &[
     ("write 0 0 0", "bad line"),
     ("list 0", "no 1"),
     ("list 99", "no 1"),
+    ("map", "no 1"),
+    ("map 0", "bad line"),
     ("touch 999999999 999999999", "no 1 0"),
     ("start 0 8 3 256", "no 1"),
     ("start 1 8 129 256", "no 1"),
@@ -207,6 +209,24 @@ const BAD: &[&str] = &[
     "list 18446744073709551616",
     "list0",
     "lists 0",
+    "map ",
+    " map",
+    "map 0",
+    "map  ",
+    "map map",
+    "map 0 0",
+    "map 00",
+    "map\t",
+    "map\r",
+    "map\0",
+    "map;",
+    "map0",
+    "maps",
+    "ma",
+    "ma p",
+    "mapx",
+    "Map",
+    "MAP",
     "start",
     "start 1 8 3",
     "start 1 8 3 ",
@@ -469,6 +489,76 @@ fn new_pages() -> Vec<Said> {
     lines
 }
 
+// A map's line by its words.
+fn map_line(words: &[u32]) -> String {
+    let bytes = words.iter().flat_map(|word| word.to_le_bytes());
+    let hex: String = bytes.map(|byte| format!("{byte:02x}")).collect();
+    format!("map {hex}")
+}
+
+// W-202: maps after calls that are accepted and refused, word by word. Two spaces of four pages, three frames; the fourth one is the
+// example of docs/MAP.md, with pages in another order than their numbers and frames in another than they were given out.
+fn maps() -> Vec<Said> {
+    let mut lines = Vec::new();
+    let mut say = |line: &str, answer: &str| lines.push((line.into(), answer.to_string()));
+    let empty = map_line(&[2, 4, 3, 256, 13, 0, 0, 13, 0, 0, 13, 3, 3, 0, 1, 2]);
+    say("start 2 4 3 256", "ok");
+    say("map", &empty);
+    say("touch 0 0", "no 4 1");
+    say("release 1 0", "no 5");
+    say("map", &empty);
+    say("mark 0 0", "ok");
+    say("mark 0 2", "ok");
+    let marked = [
+        2, 4, 3, 256, 13, 6, 0, 19, 0, 0, 19, 3, 3, 0, 2, 0, 2, 2, 0, 0, 1, 2,
+    ];
+    say("map", &map_line(&marked));
+    say("touch 0 2", "frame 0 new 1");
+    say("touch 0 3", "frame 1 new 1");
+    say("release 0 2", "pages 2");
+    say("touch 0 3", "frame 1 new 1");
+    say("write 0 512 6869", "ok");
+    let example = map_line(&[
+        2, 4, 3, 256, 13, 10, 2, 23, 0, 0, 23, 1, 1, 0, 2, 0, 2, 2, 2, 3, 1, 2, 0, 2,
+    ]);
+    say("map", &example);
+    // nothing of this changes the state
+    say("touch 0 3", "frame 1 old 0");
+    say("mark 0 3", "no 7");
+    say("drop 0 2", "no 7");
+    say("write 0 255 000000", "no 8");
+    say("release 0 0", "pages 0");
+    say("write 1 0 00", "no 4");
+    say("read 0 512 2", "bytes 6869");
+    say("start 1 8 129 256", "no 1");
+    say("map ", "bad line");
+    say("map", &example);
+    // the pool empty: its body starts at the file's end
+    say("mark 1 3", "ok");
+    say("touch 1 3", "frame 2 new 1");
+    let full = [
+        2, 4, 3, 256, 13, 10, 2, 23, 5, 1, 28, 0, 0, 0, 2, 0, 2, 2, 2, 3, 1, 2, 0, 3, 1, 1, 3, 2,
+    ];
+    say("map", &map_line(&full));
+    say("touch 1 3", "frame 2 old 0");
+    say("touch 0 0", "no 8 1");
+    // newest first, at the front
+    say("release 0 2", "pages 2");
+    say("drop 0 0", "ok");
+    let released = [
+        2, 4, 3, 256, 13, 3, 0, 16, 5, 1, 21, 2, 2, 2, 2, 0, 3, 1, 1, 3, 2, 0, 1,
+    ];
+    say("map", &map_line(&released));
+    // a second start, of other sizes
+    say("start 1 1 1 32768", "ok");
+    say("map", &map_line(&[1, 1, 1, 32_768, 10, 0, 0, 10, 1, 1, 0]));
+    say("mark 0 0", "ok");
+    say("touch 0 0", "frame 0 new 1");
+    let one = [1, 1, 1, 32_768, 10, 5, 1, 15, 0, 0, 0, 1, 1, 0, 0];
+    say("map", &map_line(&one));
+    lines
+}
+
 pub fn corners() -> Vec<Said> {
     let bad = all_bad(&bad_lines());
     let mut lines = said(EARLY);
@@ -483,6 +573,7 @@ pub fn corners() -> Vec<Said> {
     lines.extend(longest_lines());
     lines.extend(whole_pool());
     lines.extend(new_pages());
+    lines.extend(maps());
     lines.extend(limits());
     lines
 }

@@ -67,7 +67,7 @@ broken() {
         answers corners-1 player "$made/wrong"
         cmp -s "$made/player/corners-1.txt" "$made/scripts/corners-1.out" && fail "not found by hand: $name"
         found=
-        for script in "$made"/scripts/{zeros,starts,bytes}-*.txt; do
+        for script in "$made"/scripts/{zeros,starts,bytes,maps}-*.txt; do
             script=${script##*/}
             answers "${script%.txt}" player "$made/wrong"
             cmp -s "$made/player/$script" "$made/independent/$script" || { found=${script%.txt} && break; }
@@ -129,7 +129,7 @@ lines=$(wc -l < "$made/answers")
 known=0
 for form in 'no '{1,2,3,4,5,6,7,8,10}'( [0-3])?' ok 'bad line' 'frame [0-9]+ new [13]' 'frame [0-9]+ old 0' \
     'resident [0-9]+ 0' 'absent [13]' 'pages [0-9]+' 'free [0-9]+' 'at [0-9]+' bytes 'bytes ([0-9a-f]{2}){1,256}' \
-    'regions [0-9]+( [0-9]+ [0-9]+ [0-9]+)*'; do
+    'regions [0-9]+( [0-9]+ [0-9]+ [0-9]+)*' 'map ([0-9a-f]{8}){11,}'; do
     many=$(count "$form")
     [ "$many" -gt 0 ] || fail "no line is answered: $form"
     known=$((known + many))

@@ -9,7 +9,7 @@ mod corners;
 mod traffic;
 
 use corners::{INSIDE, OUTSIDE};
-use traffic::{Script, Sizes, HUNGRY, MIXED, ORDINARY, PAGES, SPANS};
+use traffic::{Script, Sizes, HUNGRY, MAPPED, MIXED, ORDINARY, PAGES, SPANS};
 
 // ---- the kinds
 
@@ -25,6 +25,8 @@ const KINDS: &[(&str, u64, fn(&mut Script, u64))] = &[
     ("malformed", 60, malformed),
     ("long", 3, long),
     ("zeros", 40, zeros),
+    ("maps", 60, maps),
+    ("widest", 3, widest),
 ];
 
 // T at most 16, F at most 4: every refusal soon.
@@ -194,6 +196,49 @@ fn zeros(s: &mut Script, seed: u64) {
             s.map_some(3);
             s.read_all();
         }
+    }
+}
+
+// Maps before a start and after calls of every kind, refused ones too; two starts and more.
+fn maps(s: &mut Script, seed: u64) {
+    s.line("map", &[]);
+    while s.lines < 240 {
+        let spaces = 1 + s.draw.below(4);
+        let pages = 1 + s.draw.below(12);
+        let frames = 1 + s.draw.below(9);
+        let page = s.draw.among(&[256, 512, 1_024]);
+        s.stray = 12;
+        s.start(Sizes(spaces, pages, frames, page));
+        s.line("map", &[]);
+        s.marks(2);
+        s.calls(60, &MAPPED);
+        if seed % 2 == 0 {
+            let outside = s.draw.among(OUTSIDE);
+            s.start(outside);
+            s.line("map", &[]);
+        }
+        s.empty_pool();
+        s.line("map", &[]);
+        s.release();
+        s.line("map", &[]);
+    }
+}
+
+// The longest map of a session: every page a start, every frame held; 14,108 bytes with 64 spaces.
+fn widest(s: &mut Script, seed: u64) {
+    let spaces = [1, 64, 16][seed as usize % 3];
+    let pages = 1_024 / spaces;
+    s.start(Sizes(spaces, pages, 128, 256));
+    for place in 0..1_024 {
+        let at = (place / pages, place % pages);
+        s.line("mark", &[at.0, at.1]);
+        s.left.mark(at);
+    }
+    s.line("map", &[]);
+    for _ in 0..10 {
+        s.empty_pool();
+        s.line("map", &[]);
+        s.calls(20, &MAPPED);
     }
 }
 

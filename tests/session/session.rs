@@ -1,6 +1,6 @@
 // The session program of document 01, which says what the program `session_program` must answer: one line for
-// each line of a script. Written from document 01 and request W-201, whose words stand in quotation marks; it
-// plays the calls on the plain machine, ../plain/plain.rs, and knows no table and no layer.
+// each line of a script. Written from document 01 and requests W-201 and W-202, whose words stand in quotation
+// marks; it plays the calls on the plain machine, ../plain/plain.rs, and knows no table and no layer.
 // Built for `run.sh broken` it is wrong in one way, wrong.rs.
 use std::io::{BufRead, BufReader, BufWriter, Result, Write};
 
@@ -85,6 +85,8 @@ fn ask(line: &[u8]) -> Option<Ask> {
         }
         // "with room for every region"
         [b"list", space] => Ask::List(number(space)?, PLACES),
+        // with room for every file
+        [b"map"] => Ask::WriteMap(u64::MAX),
         _ => return None,
     })
 }

@@ -131,14 +131,15 @@ impl Left {
 // ---- a script
 
 // How often each call is drawn: mark, drop, touch, look, release, free, translate, read, write,
-// list.
-pub type Mix = [u64; 10];
+// list, map.
+pub type Mix = [u64; 11];
 
-pub const MIXED: Mix = [4, 2, 8, 5, 4, 1, 3, 5, 5, 1];
-pub const PAGES: Mix = [5, 3, 12, 9, 5, 1, 1, 1, 1, 1];
-pub const SPANS: Mix = [1, 1, 3, 1, 2, 1, 5, 12, 12, 1];
-pub const HUNGRY: Mix = [2, 1, 12, 4, 1, 2, 1, 2, 6, 1];
-pub const ORDINARY: Mix = [30, 20, 350, 200, 60, 20, 70, 120, 120, 1];
+pub const MIXED: Mix = [4, 2, 8, 5, 4, 1, 3, 5, 5, 1, 0];
+pub const PAGES: Mix = [5, 3, 12, 9, 5, 1, 1, 1, 1, 1, 0];
+pub const SPANS: Mix = [1, 1, 3, 1, 2, 1, 5, 12, 12, 1, 0];
+pub const HUNGRY: Mix = [2, 1, 12, 4, 1, 2, 1, 2, 6, 1, 0];
+pub const MAPPED: Mix = [5, 3, 9, 1, 4, 1, 1, 1, 4, 1, 6];
+pub const ORDINARY: Mix = [30, 20, 350, 200, 60, 20, 70, 120, 120, 1, 0];
 
 pub struct Script {
     pub draw: Draw,
@@ -428,7 +429,8 @@ impl Script {
             6 => self.translate(),
             7 => self.read(),
             8 => self.write(),
-            _ => self.list(),
+            9 => self.list(),
+            _ => self.line("map", &[]),
         }
     }
 

@@ -1,5 +1,5 @@
-// Players that are wrong in one way each about new pages (W-201), to try the scripts on: `run.sh broken` plays them and demands that
-// each is found. Each is the plain machine's play, and then some bytes of the RAM as they should not be.
+// Players that are wrong in one way each about new pages (W-201) or about maps (W-202), to try the scripts on: `run.sh broken` plays them
+// and demands that each is found. Each is the plain machine's play, and then some bytes of the RAM as they should not be, or words of a map.
 use crate::plain::{Answer, Ask, Call, Machine};
 use std::ops::Range;
 use std::sync::OnceLock;
@@ -145,11 +145,120 @@ const FAULTS: &[(&str, Fault)] = &[
     }),
 ];
 
+type MapFault = fn(&mut Vec<u32>);
+
+const MAP_FAULTS: &[(&str, MapFault)] = &[
+    (
+        "a map's bodies are placed from the contents' end on",
+        |words| {
+            let contents = 3 * words[0] + 7;
+            rows(words).for_each(|row| words[row] -= contents);
+        },
+    ),
+    ("a map's bodies are placed by bytes", |words| {
+        rows(words).for_each(|row| words[row] *= 4);
+    }),
+    ("a map's third words are regions, not pages", |words| {
+        for (row, heads) in heads(words).into_iter().enumerate() {
+            words[6 + 3 * row] = heads.len() as u32;
+        }
+    }),
+    ("a map's pool has no third word", |words| {
+        let pool = 6 + 3 * words[0] as usize;
+        words[pool] = 0;
+    }),
+    ("a map's pool is reversed", |words| {
+        let pool = words[4 + 3 * words[0] as usize] as usize;
+        words[pool..].reverse();
+    }),
+    ("a map's pairs have the newest first", |words| {
+        for head in heads(words).concat() {
+            reorder(words, head, |pairs| pairs.reverse());
+        }
+    }),
+    ("a map's pairs ascend by page", |words| {
+        for head in heads(words).concat() {
+            reorder(words, head, |pairs| pairs.sort());
+        }
+    }),
+    ("a map's pairs have the frame first", |words| {
+        for head in heads(words).concat() {
+            reorder(words, head, |pairs| {
+                pairs.iter_mut().for_each(|pair| pair.reverse())
+            });
+        }
+    }),
+    ("a map's starts are places", |words| {
+        for (space, heads) in heads(words).into_iter().enumerate() {
+            for head in heads {
+                words[head] += space as u32 * words[1];
+            }
+        }
+    }),
+    ("a map's regions run to the space's end", |words| {
+        for head in heads(words).concat() {
+            words[head + 1] = words[1] - words[head];
+        }
+    }),
+    ("a map's words have their highest byte first", |words| {
+        words.iter_mut().for_each(|word| *word = word.swap_bytes());
+    }),
+    ("a map has the page size's power", |words| {
+        words[3] = words[3].ilog2();
+    }),
+    ("a map lacks spaces without a region", |words| {
+        let empty = (0..words[0] as usize).rev().find(|k| words[5 + 3 * k] == 0);
+        if let Some(k) = empty {
+            words.drain(4 + 3 * k..7 + 3 * k);
+        }
+    }),
+];
+
+// Where the contents tell of a body: each space's, then the pool's.
+fn rows(words: &[u32]) -> impl Iterator<Item = usize> {
+    (0..=words[0] as usize).map(|row| 4 + 3 * row)
+}
+
+// Where each region of each space starts in a map.
+fn heads(words: &[u32]) -> Vec<Vec<usize>> {
+    let spaces = rows(words).take(words[0] as usize);
+    let of_space = |row: usize| {
+        let mut at = words[row] as usize;
+        let end = at + words[row + 1] as usize;
+        let mut heads = Vec::new();
+        while at < end {
+            heads.push(at);
+            at += 3 + 2 * words[at + 2] as usize;
+        }
+        heads
+    };
+    spaces.map(of_space).collect()
+}
+
+// A region's pairs, changed.
+fn reorder(words: &mut [u32], head: usize, change: fn(&mut Vec<[u32; 2]>)) {
+    let body = head + 3..head + 3 + 2 * words[head + 2] as usize;
+    let mut pairs: Vec<[u32; 2]> = words[body.clone()]
+        .chunks_exact(2)
+        .map(|pair| [pair[0], pair[1]])
+        .collect();
+    change(&mut pairs);
+    words[body].copy_from_slice(&pairs.concat());
+}
+
+fn wrong_map(fault: MapFault, file: &[u8]) -> Vec<u8> {
+    let word = |four: &[u8]| u32::from_le_bytes([four[0], four[1], four[2], four[3]]);
+    let mut words = file.chunks_exact(4).map(word).collect();
+    fault(&mut words);
+    words.into_iter().flat_map(u32::to_le_bytes).collect()
+}
+
 // Whether the names were asked for, a line each; then they are told.
 pub fn is_asked_for_names() -> bool {
     let is_asked = std::env::args().nth(1).is_some_and(|word| word == "faults");
     if is_asked {
         FAULTS.iter().for_each(|(name, _)| println!("{name}"));
+        MAP_FAULTS.iter().for_each(|(name, _)| println!("{name}"));
     }
     is_asked
 }
@@ -181,6 +290,16 @@ fn resident(machine: &Machine, call: &Call) -> Vec<Bytes> {
 }
 
 pub fn play(machine: &mut Machine, call: &Call) -> Answer {
+    match tried().checked_sub(FAULTS.len()) {
+        None => play_with_ram(machine, call),
+        Some(number) => match machine.play(call) {
+            Answer::Map(file) => Answer::Map(wrong_map(MAP_FAULTS[number].1, &file)),
+            answer => answer,
+        },
+    }
+}
+
+fn play_with_ram(machine: &mut Machine, call: &Call) -> Answer {
     let resident = resident(machine, call);
     let before = machine.ram().to_vec();
     let pool: Vec<u64> = machine.pool().iter().copied().collect();

@@ -62,6 +62,7 @@ pub const FRAMES: u32 = 22;
 pub const AT: u32 = 23;
 pub const BYTES: u32 = 24;
 pub const REGIONS: u32 = 25;
+pub const MAP: u32 = 26;
 
 #[repr(C)]
 #[derive(Clone, Copy, Debug, PartialEq)]
@@ -71,6 +72,7 @@ pub struct Needs {
     pub places: usize,
     pub link: usize,
     pub ram: usize,
+    pub map: usize,
 }
 
 type Words = *mut u64;
@@ -119,6 +121,10 @@ pub mod library {
             link: Table, link_len: usize, ram: *mut u8, ram_len: usize) -> Answer;
         pub fn corwystal_list(head: *const Head, space: u32, records: *mut Region, records_len: usize,
             index: Words, index_len: usize, count: Table, count_len: usize) -> Answer;
+        pub fn corwystal_write_map(head: *const Head,
+            index: Words, index_len: usize, count: Table, count_len: usize,
+            table: Table, table_len: usize, stack: Table, stack_len: usize,
+            link: Table, link_len: usize, file: *mut u8, file_len: usize) -> Answer;
     }
 }
 
@@ -172,5 +178,7 @@ pub unsafe fn ask_library(ask: &Ask, loan: &Loan) -> Answer {
             index, n[0], count, n[1], table, n[2], helper, n[3], stack, n[4], cache, n[5], link, n[6], ram, n[7]),
         Ask::List(space, room) => library::corwystal_list(head, narrow(space), loan.own as *mut Region,
             room as usize, index, n[0], count, n[1]),
+        Ask::WriteMap(room) => library::corwystal_write_map(head, index, n[0], count, n[1], table, n[2], stack, n[4],
+            link, n[6], loan.own, room as usize),
     }
 }

@@ -45,6 +45,7 @@ fn told(answer: &plain::Answer, count: u64) -> Answer {
         At(place) => (entrance::AT, 0, *place),
         Bytes(_) => (entrance::BYTES, 0, count),
         Regions(regions) => (entrance::REGIONS, 0, regions.len() as u64),
+        Map(file) => (entrance::MAP, 0, file.len() as u64),
         Refused(number, words) => (*number as u32, words.unwrap_or(0), 0),
     };
     let words = words as u32;

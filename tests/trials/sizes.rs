@@ -5,8 +5,8 @@ use crate::plain::Sizes;
 use std::mem::{offset_of, size_of};
 
 extern "C" {
-    static header_layout: [usize; 18];
-    static header_kinds: [u32; 10];
+    static header_layout: [usize; 19];
+    static header_kinds: [u32; 11];
     fn header_index_words(places: usize) -> usize;
 }
 
@@ -22,17 +22,29 @@ fn layout() -> Result<(), String> {
         size_of::<Region>(), offset_of!(Region, length), offset_of!(Region, resident),
         size_of::<Answer>(), offset_of!(Answer, words), offset_of!(Answer, value),
         size_of::<Needs>(), offset_of!(Needs, index), offset_of!(Needs, places), offset_of!(Needs, link),
-        offset_of!(Needs, ram),
+        offset_of!(Needs, ram), offset_of!(Needs, map),
     ];
     let kinds = [
         entrance::DONE, entrance::OLD, entrance::NEW, entrance::RESIDENT, entrance::ABSENT,
         entrance::PAGES, entrance::FRAMES, entrance::AT, entrance::BYTES, entrance::REGIONS,
+        entrance::MAP,
     ];
     let (header, its_kinds) = unsafe { (header_layout, header_kinds) };
     match header == here && its_kinds == kinds {
         true => Ok(()),
         false => Err(format!("the header has {header:?} {its_kinds:?}, the trials {here:?} {kinds:?}")),
     }
+}
+
+// W-202: contents of 3S + 7 words, three words for a region, two for a frame that a page holds, at most a region a place.
+fn longest_map(sizes: &Sizes) -> usize {
+    let Sizes {
+        spaces,
+        pages,
+        frames,
+        ..
+    } = *sizes;
+    4 * (3 * spaces + 7 + 3 * spaces * pages + 2 * frames) as usize
 }
 
 fn needs(sizes: &Sizes) -> Needs {
@@ -43,6 +55,7 @@ fn needs(sizes: &Sizes) -> Needs {
             places: 0,
             link: 0,
             ram: 0,
+            map: 0,
         };
     }
     let [index, places, .., link, ram] = sizes.needed().map(|entries| entries as usize);
@@ -52,6 +65,7 @@ fn needs(sizes: &Sizes) -> Needs {
         places,
         link,
         ram,
+        map: longest_map(sizes),
     }
 }
 

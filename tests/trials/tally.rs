@@ -1,13 +1,13 @@
 // What the trials came to: every answer that document 01 gives a call must have been given, or the
 // trials say too little.
 use crate::entrance::{
-    Answer, ABSENT, AT, BYTES, DONE, FRAMES, NEW, OLD, PAGES, REGIONS, RESIDENT,
+    Answer, ABSENT, AT, BYTES, DONE, FRAMES, MAP, NEW, OLD, PAGES, REGIONS, RESIDENT,
 };
 use crate::memory::RAM;
 use crate::plain::{Ask, Call, Sizes};
 use std::collections::HashSet;
 
-pub const CALLS: [&str; 11] = [
+pub const CALLS: [&str; 12] = [
     "start",
     "mark",
     "drop",
@@ -19,6 +19,7 @@ pub const CALLS: [&str; 11] = [
     "read",
     "write",
     "list",
+    "write_map",
 ];
 
 pub fn which(ask: &Ask) -> usize {
@@ -34,11 +35,12 @@ pub fn which(ask: &Ask) -> usize {
         Ask::Read(..) => 8,
         Ask::Write(..) => 9,
         Ask::List(..) => 10,
+        Ask::WriteMap(_) => 11,
     }
 }
 
 // The answers of each call on memory that the calls left: "Refusal numbers", then what it answers.
-pub const ANSWERS: [&[u32]; 11] = [
+pub const ANSWERS: [&[u32]; 12] = [
     &[1, DONE],
     &[1, 2, 3, 6, 7, DONE],
     &[1, 2, 3, 5, 7, DONE],
@@ -50,6 +52,7 @@ pub const ANSWERS: [&[u32]; 11] = [
     &[1, 2, 3, 4, 10, BYTES],
     &[1, 2, 3, 4, 8, DONE],
     &[1, 2, 11, REGIONS],
+    &[1, 13, MAP],
 ];
 
 // "1 + 2u words .. If no such start exists it reads L": what touch and look can report with L layers.
@@ -83,6 +86,7 @@ pub fn line(ask: &Ask) -> String {
             format!("{name} {space} {address}, {} bytes", bytes.len())
         }
         Ask::List(space, room) => format!("{name} {space}, room for {room}"),
+        Ask::WriteMap(room) => format!("{name}, room for {room} bytes"),
     }
 }
 

@@ -5,7 +5,7 @@ use mathlib.Core.List.{List}
 use Prim.Native.Nat.{ℕ, _*_}
 use lib.Dec.{leb}
 use Rattle.requests.specs.declared.Request.{Request}
-use Rattle.requests.specs.declared.Request.the-variants.{Start, Page, Free, Translate, Read, Write, List as Listing}
+use Rattle.requests.specs.declared.Request.the-variants.{Start, Page, Free, Translate, Read, Write, List as Listing, WriteMap, ReadMap}
 use Rattle.hex.specs.Hex.{unhexed}
 
 -- "Its sizes are further limited to T at most 1,024 and F x P at most 32,768"
@@ -17,6 +17,8 @@ beyond (Translate i x) = false
 beyond (Read i x) = false
 beyond (Write i x) = false
 beyond (Listing i) = false
+beyond WriteMap = false
+beyond ReadMap = false
 
 -- the byte buffer ahead of a call: a write's bytes stand at its front; other requests leave it
 abbrev pub filledBy : Request → List ℕ → ℕ → List ℕ → List ℕ
@@ -27,3 +29,5 @@ filledBy (Translate i x) line count buffer = buffer
 filledBy (Read i x) line count buffer = buffer
 filledBy (Write i x) line count buffer = unhexed line count buffer
 filledBy (Listing i) line count buffer = buffer
+filledBy WriteMap line count buffer = buffer
+filledBy ReadMap line count buffer = buffer

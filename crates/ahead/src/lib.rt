@@ -28,6 +28,8 @@ pub fn is_beyond(request: Request) -> bool
         Request::Read(_, _) => false,
         Request::Write(_, _) => false,
         Request::List(_) => false,
+        Request::WriteMap => false,
+        Request::ReadMap => false,
     }
 }
 
@@ -43,5 +45,7 @@ pub fn fill(request: Request, line: &[u8], n: usize, buffer: &mut [u8])
         Request::Translate(_, _) => {}
         Request::Read(_, _) => {}
         Request::List(_) => {}
+        Request::WriteMap => {}
+        Request::ReadMap => {}
     }
 }

@@ -1,6 +1,6 @@
 // The board's entrance: the pager's calls with the head lent and changed in place.
-// Only a start stores the whole head. The other calls leave the sizes, and a release the first frame never used too,
-// so they store no more than may change: the compiler can't tell head from tables, and would store all.
+// Only a start and the reading of a map store the whole head. The other calls leave the sizes, and a release the first frame
+// never used too, so they store no more than may change: the compiler can't tell head from tables, and would store all.
 use listing::last_region;
 use listing::survey;
 use machine::Copied;
@@ -8,6 +8,7 @@ use machine::Done;
 use machine::Free;
 use machine::Listed;
 use machine::Looked;
+use machine::MapWritten;
 use machine::Region;
 use machine::Released;
 use machine::Touched;
@@ -19,7 +20,7 @@ ghost use Rattle.machine.specs.Machine as machine;
 ghost use Rattle.machine.specs.Answers.{doneSays, freeSays, touchedSays, lookedSays, releasedSays, translatedSays};
 ghost use Rattle.memory.specs.Memory.{memory};
 ghost use Rattle.promise.specs.Did.{Did};
-ghost use Rattle.promise.specs.Filled.{ReadDid, RecordsDid};
+ghost use Rattle.promise.specs.Filled.{ReadDid, RecordsDid, MapDid};
 ghost use Rattle.machine.specs.Machine.{sizes};
 
 // Sets the sizes: no starts, every frame in the pool. Five tables and the RAM may hold anything.
@@ -306,4 +307,47 @@ pub fn list(head: &Head, space: u32, records: &mut [Region], index: &[u64], coun
         (now (records .exit))) ⌝ }
 {
     list_into(*head, space, records, index, count)
+}
+
+// The whole state but for the RAM as a map file at the front of the caller's buffer. The bytes after it stay.
+pub fn write_map(
+    head: &Head,
+    index: &[u64],
+    count: &[u32],
+    table: &[u32],
+    stack: &[u32],
+    link: &[u32],
+    file: &mut [u8],
+) -> MapWritten
+    ensures { λ r. ⌜ ((helper cache ram : List ℕ) →
+        MapDid
+        (memory (now (head .entry)) (now (index .entry)) (now (count .entry)) (now (table .entry)) helper (now (stack .entry)) cache (now (link .entry)) ram)
+        r (now (file .entry)) (now (file .exit))) ⌝ }
+{
+    saving::write_map(*head, index, count, table, stack, link, file)
+}
+
+// Begins anew with the state that a map file describes: all of the file is judged before the first word is stored.
+pub fn read_map(
+    head: &mut Head,
+    file: &[u8],
+    index: &mut [u64],
+    count: &mut [u32],
+    table: &mut [u32],
+    helper: &mut [u32],
+    stack: &mut [u32],
+    cache: &mut [u32],
+    link: &mut [u32],
+) -> Done
+    ensures { λ r. ⌜ ((ram : List ℕ) →
+        Did (machine.readMap (now (file .entry)))
+        (memory (now (head .entry)) (now (index .entry)) (now (count .entry)) (now (table .entry)) (now (helper .entry)) (now (stack .entry))
+        (now (cache .entry)) (now (link .entry)) ram)
+        (doneSays r)
+        (memory (now (head .exit)) (now (index .exit)) (now (count .exit)) (now (table .exit)) (now (helper .exit)) (now (stack .exit)) (now (cache .exit))
+        (now (link .exit)) ram)) ⌝ }
+{
+    let loaded = loading::read_map(*head, file, index, count, table, helper, stack, cache, link);
+    *head = loaded.head;
+    loaded.answer
 }

@@ -1,5 +1,5 @@
-// Plays encoded calls on real buffers: document 01's session, then a write, reads, a list and codes that are no
-// calls. Writes three numbers a call, then the byte buffer and the records.
+// Plays encoded calls on real buffers: document 01's session, then a write, reads, a list, codes that are no calls,
+// and the map, written and read back. Writes three numbers a call, then the byte buffer and the records.
 use memory::no_start;
 
 fn number(n: u64) {
@@ -164,16 +164,59 @@ fn main() {
         9,
         0,
         0,
-        12,
+        84,
         9,
         2,
         4294967296,
         0,
         0,
         0,
+        12,
+        16,
+        71,
+        0,
+        0,
+        12,
+        16,
+        72,
+        0,
+        0,
+        13,
+        16,
+        68,
+        0,
+        0,
+        13,
+        16,
+        72,
+        0,
+        0,
+        7,
+        0,
+        0,
+        0,
+        0,
+        9,
+        0,
+        510,
+        8,
+        6,
+        13,
+        17,
+        72,
+        0,
+        0,
     ];
-    let mut replies = [7u64; 80];
-    let mut bytes = [104u8, 101, 108, 108, 111, 33, 0, 0, 9, 9, 9, 9, 9, 9, 9, 9];
+    let mut replies = [7u64; 101];
+    let mut bytes = [9u8; 88];
+    bytes[0] = 104;
+    bytes[1] = 101;
+    bytes[2] = 108;
+    bytes[3] = 108;
+    bytes[4] = 111;
+    bytes[5] = 33;
+    bytes[6] = 0;
+    bytes[7] = 0;
     let mut records = [5u32; 12];
     let mut index = [0xffff_ffff_ffff_ffffu64; 3];
     let mut count = [1u32; 9];

@@ -8,7 +8,7 @@ ghost use mathlib.Core.List.{List};
 ghost use Prim.Native.Nat.{ℕ};
 ghost use lib.ListN.{take};
 ghost use Rattle.machine.specs.Machine as machine;
-ghost use Rattle.machine.specs.Answers.{doneSays, freeSays, touchedSays, lookedSays, releasedSays, translatedSays, copiedSays, listedSays};
+ghost use Rattle.machine.specs.Answers.{doneSays, freeSays, touchedSays, lookedSays, releasedSays, translatedSays, copiedSays, listedSays, mapWrittenSays};
 ghost use Rattle.machine.specs.declared.Done.{Done};
 ghost use Rattle.machine.specs.declared.Touched.{Touched};
 ghost use Rattle.machine.specs.declared.Looked.{Looked};
@@ -17,9 +17,10 @@ ghost use Rattle.machine.specs.declared.Free.{Free};
 ghost use Rattle.machine.specs.declared.Translated.{Translated};
 ghost use Rattle.machine.specs.declared.Copied.{Copied};
 ghost use Rattle.machine.specs.declared.Listed.{Listed};
+ghost use Rattle.machine.specs.declared.MapWritten.{MapWritten};
 ghost use Rattle.memory.specs.Memory.{memory};
 ghost use Rattle.promise.specs.Did.{Did};
-ghost use Rattle.promise.specs.Filled.{ReadDid, RecordsDid, recordsFilled};
+ghost use Rattle.promise.specs.Filled.{ReadDid, RecordsDid, recordsFilled, MapDid, bytesFilled};
 ghost use Rattle.machine.specs.Machine.{sizes};
 ghost use Rattle.sizing.specs.Needed.{numbersOf, neededFor};
 ghost use Rattle.corwystal.specs.Encodes.{Encodes};
@@ -330,4 +331,63 @@ pub extern "C" fn corwystal_list(
         a (now (records .entry)) (now (records .exit))) r ⌝ }
 {
     requests::encode_listed(board::list(head, space, records, index, count))
+}
+
+// The whole state but for the RAM as a map file at the front of the caller's buffer. The bytes after it stay.
+#[no_mangle]
+pub extern "C" fn corwystal_write_map(
+    head: &Head,
+    index: &[u64],
+    count: &[u32],
+    table: &[u32],
+    stack: &[u32],
+    link: &[u32],
+    file: &mut [u8],
+) -> Answer
+    ensures { λ r. ⌜ Encodes MapWritten (λ a. mapWrittenSays a (take (bytesFilled a) (now (file .exit)))) (λ a.
+        (helper cache ram : List ℕ) →
+        MapDid
+        (memory (now (head .entry)) (now (index .entry)) (now (count .entry)) (now (table .entry)) helper (now (stack .entry)) cache (now (link .entry)) ram)
+        a (now (file .entry)) (now (file .exit))) r ⌝ }
+{
+    let n = file.len();
+    requests::encode_written(
+        board::write_map(head, index, count, table, stack, link, file),
+        n,
+    )
+}
+
+// Begins anew with the state that a map file describes: all of the file is judged before the first word is stored.
+#[no_mangle]
+pub extern "C" fn corwystal_read_map(
+    head: &mut Head,
+    file: &[u8],
+    index: &mut [u64],
+    count: &mut [u32],
+    table: &mut [u32],
+    helper: &mut [u32],
+    stack: &mut [u32],
+    cache: &mut [u32],
+    link: &mut [u32],
+) -> Answer
+    ensures { λ r. ⌜ Encodes Done doneSays (λ a.
+        (ram : List ℕ) →
+        Did (machine.readMap (now (file .entry)))
+        (memory (now (head .entry)) (now (index .entry)) (now (count .entry)) (now (table .entry)) (now (helper .entry)) (now (stack .entry))
+        (now (cache .entry)) (now (link .entry)) ram)
+        (doneSays a)
+        (memory (now (head .exit)) (now (index .exit)) (now (count .exit)) (now (table .exit)) (now (helper .exit)) (now (stack .exit)) (now (cache .exit))
+        (now (link .exit)) ram)) r ⌝ }
+{
+    requests::encode_done(board::read_map(
+        head,
+        file,
+        index,
+        count,
+        table,
+        helper,
+        stack,
+        cache,
+        link,
+    ))
 }

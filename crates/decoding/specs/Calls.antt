@@ -49,6 +49,10 @@ spanCode kind i x from n whole = cond (fits i && inside from n whole) (Call (spa
 abbrev pub listCode : ℕ → ℕ → ℕ → ℕ → Code
 listCode i first n whole = cond (fits i && inside first n whole) (Call (request-is.List i) (recordParts first n)) Unreadable
 
+-- a call with a map, in n bytes of the byte buffer from a place on
+abbrev pub mapCode : Request → ℕ → ℕ → ℕ → Code
+mapCode q from n whole = cond (inside from n whole) (Call q (byteParts from n)) Unreadable
+
 -- the page call of a kind
 abbrev pub pageKind : ℕ → Kind
 pageKind kind =
@@ -67,7 +71,9 @@ decodedAs Other kind a b c d wholeBytes wholeRecords =
     (cond (eqb kind 8) (translateCode a b)
     (cond (eqb kind 9) (spanCode 9 a b c d wholeBytes)
     (cond (eqb kind 10) (spanCode 10 a b c d wholeBytes)
-    (cond (eqb kind 11) (listCode a b c wholeRecords) Unreadable)))))
+    (cond (eqb kind 11) (listCode a b c wholeRecords)
+    (cond (eqb kind 12) (mapCode request-is.WriteMap a b wholeBytes)
+    (cond (eqb kind 13) (mapCode request-is.ReadMap a b wholeBytes) Unreadable)))))))
 
 unfoldable pub decoded : ℕ → ℕ → ℕ → ℕ → ℕ → ℕ → ℕ → Code
 decoded kind = decodedAs (pageKind kind) kind

@@ -7,7 +7,7 @@ use borrow.Author.Tests.{leb-true}
 use lib.Dec.{eqb, leb}
 use Rattle.machine.specs.Laws.Sizes.{both}
 use Rattle.requests.specs.declared.Request.{Request}
-use Rattle.requests.specs.declared.Request.the-variants.{Start, Page, Free, Translate, List}
+use Rattle.requests.specs.declared.Request.the-variants.{Start, Page, Free, Translate, List, WriteMap, ReadMap}
 use Rattle.decoding.specs.declared.Parts.{Parts}
 use Rattle.decoding.specs.declared.Kind.{Kind}
 use Rattle.decoding.specs.declared.Kind.the-variants as kind-is
@@ -63,7 +63,9 @@ module _ (q : Request) (p : Parts) (wholeBytes wholeRecords : ℕ) where
       (either (eqb kind 8) _ _ (made (fits a) (Translate a b) noParts (λ _. no-parts))
       (either (eqb kind 9) _ _ (made (fits a && inside c d wholeBytes) (spanRequest 9 a b) (byteParts c d) (byte-parts (fits a) c d))
       (either (eqb kind 10) _ _ (made (fits a && inside c d wholeBytes) (spanRequest 10 a b) (byteParts c d) (byte-parts (fits a) c d))
-      (either (eqb kind 11) _ _ (made (fits a && inside b c wholeRecords) (List a) (recordParts b c) (record-parts (fits a) b c)) no-call)))))
+      (either (eqb kind 11) _ _ (made (fits a && inside b c wholeRecords) (List a) (recordParts b c) (record-parts (fits a) b c))
+      (either (eqb kind 12) _ _ (made (inside a b wholeBytes) WriteMap (byteParts a b) (byte-parts true a b))
+      (either (eqb kind 13) _ _ (made (inside a b wholeBytes) ReadMap (byteParts a b) (byte-parts true a b)) no-call)))))))
 
   pub decoded-inside : (kind a b c d : ℕ) → decoded kind a b c d wholeBytes wholeRecords ≡ Call q p → Inside p wholeBytes wholeRecords
   unfolding decoded

@@ -2,7 +2,7 @@
 use machine::PageCall;
 use requests::Request;
 ghost use mathlib.Core.Path.{_≡_};
-ghost use Rattle.decoding.specs.Calls.{fits, inside, noParts, startCode, pageCode, translateCode, spanRequest, spanCode, listCode};
+ghost use Rattle.decoding.specs.Calls.{fits, inside, noParts, startCode, pageCode, translateCode, spanRequest, spanCode, listCode, mapCode};
 ghost use Rattle.decoding.specs.Calls.{pageKind, decoded};
 
 // The part of the byte buffer and the part of the records that a call is lent.
@@ -143,6 +143,23 @@ fn list_code(i: u64, first: usize, n: usize, whole: usize) -> Code
     )
 }
 
+fn map_code(request: Request, from: usize, n: usize, whole: usize) -> Code
+    ensures { λ r. ⌜ r ≡ mapCode request from n whole ⌝ }
+{
+    if !is_inside(from, n, whole) {
+        return Code::Unreadable;
+    }
+    Code::Call(
+        request,
+        Parts {
+            from,
+            to: from + n,
+            first: 0,
+            last: 0,
+        },
+    )
+}
+
 // The page call of a kind.
 fn page_kind(kind: u64) -> Kind
     ensures { λ r. ⌜ r ≡ pageKind kind ⌝ }
@@ -171,6 +188,8 @@ pub fn decode(kind: u64, a: u64, b: u64, c: u64, d: u64, bytes: usize, records: 
         9 => span_code(9, a, b as usize, c as usize, d as usize, bytes),
         10 => span_code(10, a, b as usize, c as usize, d as usize, bytes),
         11 => list_code(a, b as usize, c as usize, records),
+        12 => map_code(Request::WriteMap, a as usize, b as usize, bytes),
+        13 => map_code(Request::ReadMap, a as usize, b as usize, bytes),
         _ => Code::Unreadable,
     }
 }

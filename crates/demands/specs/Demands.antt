@@ -12,14 +12,14 @@ use Rattle.machine.specs.declared.Copied.{Copied}
 use Rattle.machine.specs.declared.Copied.the-variants as copied-is
 use Rattle.machine.specs.declared.Listed.{Listed}
 use Rattle.machine.specs.declared.Listed.the-variants as listed-is
-use Rattle.machine.specs.Machine.{Sizes, State, begun, Lent, Call, release, free, translate, read, write, list, asked, ramAt, withRam, recordsOf, Answer}
+use Rattle.machine.specs.Machine.{Sizes, State, begun, Lent, Call, facts, release, free, translate, read, write, list, asked, ramAt, withRam, recordsOf, Answer}
 use Rattle.machine.specs.Machine.{done, at, bytes, frames, regions, answers, after, afterAll}
-use Rattle.machine.specs.Claims.{residentPages, timesFree, timesHeld, isRefused, Address, Same, Spared}
+use Rattle.machine.specs.Claims.{residentPages, timesFree, timesHeld, isRefused, Bare, Address, Same, Spared}
 use Rattle.memory.specs.Memory.{Memory, sizesOf, lengths}
 use Rattle.promise.specs.Holds.{Roomy}
 use Rattle.promise.specs.Did.{Exactly, Tables, Did}
 use Rattle.promise.specs.Filled.{ReadDid, ListDid}
-use Rattle.demands.specs.History.{Event, calls, Beginning, Run}
+use Rattle.demands.specs.History.{Event, played, calls, Beginning, Run}
 
 -- ---- Demand 1. "For any sizes, numbers and buffers a call ends and does nothing undefined. It asks nothing of its caller." That is what it is for a
 -- function to be proved that has no `requires`; so is "Memory our calls didn't leave may get a wrong answer, never an undefined step". The rest:
@@ -59,12 +59,18 @@ pub record Sequence (m : State) (k : Memory) (es : List Event) (k′ : Memory) :
 abbrev pub Demand2 : Type 0
 Demand2 = (m : State) (k k′ : Memory) (es : List Event) → Sequence m k es k′ → map (λ e. e .answer) es ≡ answers (withRam m (k .ram)) (calls es)
 
+-- no page is resident in a state that a call among them begins: so with starts, and with the reading of a map without resident pages
+unfoldable pub BeginBare : List Event → Type 0
+BeginBare [] = Unit {0}
+BeginBare (e ∷ es) = ((s : State) → facts (played e) .begins ≡ some s → e .answer ≡ done → Bare s) × BeginBare es
+
 -- W-201: "on memory as in demand 2, no answer since a start depends on the RAM's starting contents either". Two accepted starts with the same sizes, on
--- memories that held anything, and the same calls with the same lengths lent after each; later starts may stand among them
+-- memories that held anything, and the same calls with the same lengths lent after each; later starts may stand among them, refused readings and written
+-- maps too, but of accepted readings only those without resident pages: "a page resident in the file shows what stands there"
 abbrev pub Demand2Ram : Type 0
 Demand2Ram =
     (z : Sizes) (k k′ l l′ : Memory) (es fs : List Event) → Sequence (begun z []) k es k′ → Sequence (begun z []) l fs l′ → calls es ≡ calls fs
-    → map (λ e. e .answer) es ≡ map (λ e. e .answer) fs
+    → BeginBare es → map (λ e. e .answer) es ≡ map (λ e. e .answer) fs
 
 -- ---- Demand 3. Document 01: "one claim about the whole sequence of calls, not one for each call"
 

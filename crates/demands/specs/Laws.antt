@@ -9,3 +9,4 @@ pub mod Rooms
 pub mod Next
 pub mod Byte
 pub mod Filled
+pub mod Maps

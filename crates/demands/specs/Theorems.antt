@@ -1,26 +1,29 @@
--- The three demands, and what holds when bytes reach the RAM from outside, proved.
-use mathlib.Core.Path.{refl, sym, ap, _∙_}
+-- The three demands, W-202's claims, and what holds when bytes reach the RAM from outside, proved.
+use mathlib.Core.Path.{refl, sym, ap, _∙_, subst}
 use mathlib.Core.List.{List, []}
 use Prim.Native.Nat.{ℕ}
-use lib.ListN.{length, getD}
-use Rattle.sequence.specs.Lists.{getD-same}
-use Rattle.machine.specs.Machine.{places, State, begun, Lent, Call, translate, Answer, at, withRam, recordsOf, answers, afterAll}
+use lib.ListN.{length, getD, take}
+use Rattle.machine.specs.Machine.{Sizes, State, begun, Lent, everyTable, readMap, Call, translate, Answer, at, withRam, recordsOf, answers, afterAll}
 use Rattle.machine.specs.Claims.{Same}
 use Rattle.machine.specs.Laws.Holders.{one-holder, pool-and-resident, same-byte}
 use Rattle.machine.specs.Laws.Records.{listed-pages}
 use Rattle.machine.specs.Laws.Bytes.{read-there}
-use Rattle.machine.specs.Laws.Hidden.{ram-unseen}
-use Rattle.memory.specs.Memory.{Memory, lengths}
+use Rattle.machine.specs.Laws.Hidden.{ram-unseen, start-bare}
+use Rattle.machine.specs.Map.{mapOf}
+use Rattle.machine.specs.MapTheorems.{described-ram, described-ok, described-sizes, write-then-read as written-read}
+use Rattle.memory.specs.Memory.{Memory, sizesOf, lengths}
 use Rattle.promise.specs.Holds.{Holds}
 use Rattle.promise.specs.Did.{Did}
-use Rattle.laws.specs.Refusals.{refused-still}
+use Rattle.laws.specs.Refusals.{Long, refused-still}
 use Rattle.laws.specs.Located.{translate-asks, translate-next, translate-resident}
 use Rattle.demands.specs.History.{calls}
 use Rattle.demands.specs.Demands.{Demand1, Demand1Read, Demand1List, machineAt, Demand2, Demand2Ram, Demand3For}
+use Rattle.demands.specs.Maps.{Demand1Map, ReadsExactly, WriteThenRead, ReadThenWrite}
 use Rattle.demands.specs.Laws.Run.{begins-holding, sequence-follows}
-use Rattle.demands.specs.Laws.Rooms.{run-rooms}
+use Rattle.demands.specs.Laws.Rooms.{run-rooms, run-bare}
 use Rattle.demands.specs.Laws.Next.{free-next, list-next, read-asks}
 use Rattle.demands.specs.Laws.Byte.{stored-there}
+use Rattle.demands.specs.Laws.Maps.{map-passes, described-begins, map-is, reads, written-again}
 use Rattle.demands.specs.Laws.Filled.{course-follows}
 use Rattle.demands.specs.Outside.{made, afterIn, OutsideFor}
 
@@ -37,12 +40,13 @@ pub demand-2 : Demand2
 demand-2 m k k′ es q = sequence-follows m k k′ es q .answers-are
 
 pub demand-2-ram : Demand2Ram
-demand-2-ram z k k′ l l′ es fs q r same =
+demand-2-ram z k k′ l l′ es fs q r same bare =
     let m = withRam (begun z []) (l .ram) in
     let H = begins-holding (begun z []) k (q .started) (q .beginning) in
     let H′ = begins-holding (begun z []) l (r .started) (r .beginning) in
     demand-2 (begun z []) k k′ es q
-    ∙ ram-unseen m (H′ .sound) (λ a. getD-same (places z) a []) (k .ram) (calls es) (rw same (run-rooms m H′ (r .run))) (run-rooms _ H (q .run))
+    ∙ sym (ram-unseen (withRam (begun z []) (k .ram)) (H .sound) (start-bare z (k .ram)) (l .ram) (calls es) (run-rooms _ H (q .run))
+    (rw same (run-rooms m H′ (r .run))) (run-bare _ H (q .run) bare))
     ∙ ap (answers m) same
     ∙ sym (demand-2 (begun z []) l l′ fs r)
 
@@ -90,3 +94,24 @@ outside-writes s k k′ ts q =
       state-alike = f .state-alike ∙ ap (withRam (afterAll m (calls (made ts)))) (sym (H .ram-is));
       apart = addresses-apart n k′ H;
     }
+
+-- ---- W-202
+
+pub demand-1-map : Demand1Map
+demand-1-map k r buffer buffer′ d = d .kept
+
+pub reads-exactly : ReadsExactly
+reads-exactly file bytes k a k′ long d = reads file bytes k a k′ long d
+
+pub write-then-read : WriteThenRead
+write-then-read m k H n buffer buffer′ w l a l′ long d =
+    let file = map-is m (length buffer) (lengths k) (take n buffer′) (w .did .honest m H .answer-is) in
+    let d′ = subst (λ (f : List ℕ). Did (readMap f) l a l′) file d in
+    let is = described-ram (m .ram) (mapOf m) (l .ram) m (written-read m (H .sound)) in
+    let z = described-sizes (m .ram) (mapOf m) m (written-read m (H .sound)) in
+    described-begins (mapOf m) (withRam m (l .ram)) l a l′ is
+    (map-passes (sizesOf (l .head)) (mapOf m) (lengths l) (described-ok (l .ram) (mapOf m) _ is)
+    (subst (λ (y : Sizes). Long everyTable y (lengths l)) z long)) d′
+
+pub read-then-write : ReadThenWrite
+read-then-write file bytes k k′ d r buffer buffer′ fits w = written-again file bytes k k′ d (length buffer) _ fits (w .did)

@@ -4,7 +4,7 @@ use mathlib.Core.List.{List, [], _∷_}
 use Prim.Native.Nat.{ℕ, zero, suc, _+_, _<_}
 use native.Mathlib.Nat.{add-zero}
 use native.Mathlib.Omega.{arith}
-use lib.ListN.{length, getD, set}
+use lib.ListN.{length, getD, set, length-set}
 use lib.Seq.{drop-set-lt, getD-set-same, getD-set-other}
 use Rattle.sequence.specs.Lists.{each-one}
 use Rattle.sequence.specs.Changes.{changed-set}
@@ -13,10 +13,11 @@ use Rattle.memory.specs.Memory.{Memory, sizesOf}
 use Rattle.memory.specs.declared.Head.{Head}
 use Rattle.promise.specs.Did.{Words, framesLeft, Maps, FrameOf, Writes, NewPage}
 use Rattle.promise.specs.Shown.{Shown}
+use Rattle.promise.specs.Within.{Within}
 use Rattle.pool.specs.Models.{takenFrom, taken}
 use Rattle.laws.specs.Refusals.{words-none}
 use Rattle.planning.specs.Planning.{Inside}
-use Rattle.entries.specs.Models.{mapPage}
+use Rattle.entries.specs.Models.{mapEntry, mapPage}
 
 -- a frame taken changes no size
 pub sizes-taken : (link : List ℕ) (h : Head) (n : ℕ) → sizesOf (takenFrom link h n .head) ≡ sizesOf h
@@ -52,6 +53,20 @@ map-bounds k i b p a is hidden g =
       cache = words-set _ (k .cache) p a (g .place);
       link = words-set _ (k .link) _ _ (g .frame);
       others = λ q d. getD-set-other (k .table) p q _ 0 (λ e. d 0 (omega arith) (ap (placeOf (sizesOf (k .head)) i) (add-zero b) ∙ sym is ∙ sym e));
+    }
+
+-- past the sizes nothing changes
+pub entry-within : (k : Memory) (p a : ℕ) → Inside k p a → Within (sizesOf (k .head)) k (mapEntry k a p)
+entry-within k p a g =
+    record {
+      long = simp length-set refl;
+      index = refl;
+      count = drop-set-lt _ (k .count) a _ (g .start);
+      table = drop-set-lt _ (k .table) p _ (g .place);
+      helper = drop-set-lt _ (k .helper) p _ (g .place);
+      stack = drop-set-lt _ (k .stack) _ p (g .top);
+      cache = drop-set-lt _ (k .cache) p a (g .place);
+      link = drop-set-lt _ (k .link) _ _ (g .frame);
     }
 
 -- the frame taken is the page's

@@ -2,12 +2,12 @@
 use Prim.Native.Nat.{ℕ, _+_}
 use lib.ListN.{set}
 use Rattle.machine.specs.Machine.{zeroed}
-use Rattle.memory.specs.Memory.{Memory, at, sizesOf}
+use Rattle.memory.specs.Memory.{Memory, withBytes, at, sizesOf}
 use Rattle.pool.specs.Models.{newestOf, taken}
 
--- the memory after page p of the region at a is mapped, and its frame cleared
-abbrev pub mapPage : Memory → ℕ → ℕ → Memory
-mapPage k a p =
+-- head and tables after page p of the region at a is mapped: the RAM as it stands
+abbrev pub mapEntry : Memory → ℕ → ℕ → Memory
+mapEntry k a p =
     let n = at (k .count) a in
     let f = taken (k .link) (k .head) .frame in
     record {
@@ -19,5 +19,9 @@ mapPage k a p =
       stack = set (k .stack) (a + n) p;
       cache = set (k .cache) p a;
       link = set (k .link) f (newestOf (k .table) (k .stack) a n);
-      ram = zeroed (sizesOf (k .head)) f (k .ram);
+      ram = k .ram;
     }
+
+-- and with the frame cleared
+abbrev pub mapPage : Memory → ℕ → ℕ → Memory
+mapPage k a p = withBytes (mapEntry k a p) (zeroed (sizesOf (k .head)) (taken (k .link) (k .head) .frame) (k .ram))

@@ -9,10 +9,10 @@ use Rattle.examples.specs.Session.{all, played}
 abbrev says : List Call → List Answer → Type 0
 says calls expected = played calls ≡ expected
 
-abbrev nothing : Lent
+abbrev pub nothing : Lent
 nothing = record { index = 0; count = 0; table = 0; helper = 0; stack = 0; cache = 0; link = 0; ram = 0 }
 
--- no start made: 1 for every call but start
+-- no start made: 1 for every call but start; a map is read without one, too (Maps.antt)
 no-start-made : says
     (mark 0 0 all ∷ drop 0 0 all ∷ touch 0 0 all ∷ look 0 0 all ∷ release 0 0 all ∷ free ∷ translate 0 0 all ∷ read 0 0 0 all ∷ write 0 0 [] all ∷ list 0 9
     all ∷ [])

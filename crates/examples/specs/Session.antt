@@ -69,7 +69,7 @@ session-pool = refl
 -- ---- the same as lines: bytes in, bytes out
 
 -- a text's characters by their numbers, which are its bytes if it is ASCII
-abbrev codes : String → List ℕ
+abbrev pub codes : String → List ℕ
 codes empty = []
 codes (c then s) = code c ∷ codes s
 
@@ -105,7 +105,7 @@ abbrev lent : Lent
 lent = record { index = 17; count = 1024; table = 1024; helper = 1024; stack = 1024; cache = 1024; link = 128; ram = 32768 }
 
 -- what the session answers to lines one after another, with its definitions open
-unfoldable answersFrom : State → List (List ℕ) → List (List ℕ)
+unfoldable pub answersFrom : State → List (List ℕ) → List (List ℕ)
 unfolding played parsed begins digitsAfter decimalWith
 answersFrom m [] = []
 answersFrom m (l ∷ ls) = let r = answered l lent m in r .answer-text ∷ answersFrom (r .after) ls

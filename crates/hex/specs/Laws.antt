@@ -27,7 +27,7 @@ module _ (line : List ℕ) where
   Counted Wrong = Unit
 
   -- no bytes: the last 0 bytes of the line are hex
-  pub no-hex : Hex 0
+  no-hex : Hex 0
   unfolding allHex
   no-hex =
       let all : length line - 2 * 0 ≡ length line = omega arith in

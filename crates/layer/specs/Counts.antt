@@ -1,15 +1,17 @@
--- The processor's count of leading zeros: 63 less the count is the place of the highest bit set.
-use mathlib.Core.Path.{_≡_, sym, ap, _∙_}
-use mathlib.Core.Bool.{true}
+-- The processor's counts of zeros: 63 less the leading ones is the place of the highest bit set, and the trailing ones are the place of the lowest.
+use mathlib.Core.Path.{_≡_, refl, sym, ap, _∙_}
+use mathlib.Core.Bool.{true, false}
 use mathlib.Core.Option.{none, some}
-use Prim.Native.Nat.{ℕ, suc, _-_, _*_, _/_, _%_, _^_, _≤_, _<_}
-use native.Mathlib.Nat.{div-eq-of-lt-le, lt-of-lt-of-le, mod-eq-of-lt, mod-lt}
+use Prim.Native.Nat.{ℕ, zero, suc, _+_, _-_, _*_, _/_, _%_, _^_, _≤_, _<_}
+use native.Mathlib.Nat.{div-div-eq-div-mul, div-eq-of-lt-le, div-one, lt-of-lt-of-le, mod-eq-of-lt, mod-lt, pow-succ'}
 use native.Mathlib.Omega.{arith}
+use borrow.Author.Tests.{eq-eqb, ne-eqb}
 use lib.Bits.{bitAnd, and-mask}
-use lib.Count.{leadingZeros, leading-top}
-use lib.Pow.{pow-mono, pow-pos}
+use lib.Count.{leadingZeros, leading-top, trailingZeros, under}
+use lib.Dec.{eqb}
+use lib.Pow.{pow-mono, pow-pos, shr-shr}
 use Rattle.places.specs.Places.{lastBelow}
-use Rattle.places.specs.Laws.{one-shifted, below-ext, below-is, below-no, below-skip}
+use Rattle.places.specs.Laws.{First, one-shifted, below-ext, below-is, below-no, below-skip}
 use Rattle.layer.specs.Words.{bit}
 use Rattle.layer.specs.Packed.{bit-high, bit-zero, bit-pack, pack-bits}
 
@@ -73,3 +75,36 @@ module _ (w n low : ℕ) (is : low ≡ w % 2 ^ n) where
         (below-ext (bit w) (bit low) n bit-low
         ∙ sym (below-skip (bit low) n 64 h (λ j x _. bit-high low n j low-lt x))
         ∙ highest-bit low (omega arith) word-lt)
+
+-- ---- the lowest bit
+
+bit-half : (w i : ℕ) → bit w (suc i) ≡ bit (w / 2) i
+unfolding bit
+bit-half w i = ap (λ (x : ℕ). eqb (x % 2) 1) (ap (λ (x : ℕ). w / x) (pow-succ' 2 i) ∙ sym (div-div-eq-div-mul w 2 (2 ^ i)))
+
+bit-least : (w : ℕ) → bit w 0 ≡ eqb (w % 2) 1
+unfolding bit
+bit-least w = ap (λ (x : ℕ). eqb (x % 2) 1) (div-one w)
+
+-- for all words but 0: the count of trailing zeros is the place of the lowest bit set
+pub lowest-bit : (k w : ℕ) → 0 < w → w < 2 ^ k → First (bit w) 0 (trailingZeros k w)
+unfolding trailingZeros
+lowest-bit zero w pos fits = absurd (omega arith)
+lowest-bit (suc k) w pos fits = go (w % 2) refl (λ e. lowest-bit k (w / 2) (omega arith) (omega arith))
+  where
+    go : (r : ℕ) → w % 2 ≡ r → (w % 2 ≡ 0 → First (bit (w / 2)) 0 (trailingZeros k (w / 2)))
+        → First (bit w) 0 (under r (trailingZeros k (w / 2)))
+    go zero e rest =
+        let half = rest e in
+        record { from = omega arith; accepted = bit-half w (trailingZeros k (w / 2)) ∙ half .accepted; refused = λ i _ l. clear i l }
+      where
+        clear : (i : ℕ) → i < suc (trailingZeros k (w / 2)) → bit w i ≡ false
+        clear zero l = bit-least w ∙ ne-eqb (w % 2) 1 (λ q. omega arith)
+        clear (suc i) l = bit-half w i ∙ rest e .refused i (omega arith) (omega arith)
+    go (suc r) e rest =
+        record { from = omega arith; accepted = bit-least w ∙ eq-eqb (w % 2) 1 (omega arith); refused = λ i _ l. absurd (omega arith) }
+
+-- the bits from n on by themselves, as a shift makes them
+pub bit-shifted : (w n i : ℕ) → bit (w / 2 ^ n) i ≡ bit w (n + i)
+unfolding bit
+bit-shifted w n i = ap (λ (x : ℕ). eqb (x % 2) 1) (shr-shr w n i)

@@ -8,20 +8,20 @@ use borrow.Author.Tests.{le-leb, lt-leb}
 use lib.Dec.{leb}
 use lib.ListN.{length, take, drop, length-drop, length-append}
 use lib.Seq.{length-take-le, take-at}
-use Rattle.machine.specs.Machine.{State, Lent, Call as MachineCall, read, write, list, Answer, answer, after}
+use Rattle.machine.specs.Machine.{State, Lent, Call as MachineCall, read, write, list, writeMap, Answer, answer, after}
 use Rattle.memory.specs.Memory.{Memory, lengths}
 use Rattle.promise.specs.Filled.{recordsIn}
 use Rattle.requests.specs.Requests.{requested, replied, regionNumbers, recordsInto}
 use Rattle.requests.specs.Laws.{records-length, numbers-length}
 use Rattle.serving.specs.Steps.{Stands, serve-follows}
 use Rattle.requests.specs.declared.Request.{Request}
-use Rattle.requests.specs.declared.Request.the-variants.{Start, Page, Free, Translate, Read, Write, List as Listing}
+use Rattle.requests.specs.declared.Request.the-variants.{Start, Page, Free, Translate, Read, Write, List as Listing, WriteMap, ReadMap}
 use Rattle.requests.specs.declared.Reply.{Reply}
 use Rattle.requests.specs.declared.Reply.the-variants as reply-is
 use Rattle.hex.specs.Hex.{bytesIn, allHex, hexOf, unhexed}
 use Rattle.hex.specs.Laws.{unhexed-all}
 use Rattle.parsing.specs.Grammar.{parsed}
-use Rattle.parsing.specs.Laws.{few-bytes, write-hex}
+use Rattle.parsing.specs.Laws.{lined, few-bytes, write-hex}
 use Rattle.parsing.specs.declared.Line.{Line}
 use Rattle.parsing.specs.declared.Line.the-variants.{Call, Bad}
 use Rattle.digits.specs.Writing.{Wrote}
@@ -59,6 +59,8 @@ module _ (line : List ℕ) (n : ℕ) (buffer records : List ℕ) (l : Lent) (fit
   line-call (Read i x) e = ap (λ (k : ℕ). read i x k l) (length-take-le n buffer fits)
   line-call (Write i x) e = let h = write-hex line i x n e in ap (λ (vs : List ℕ). write i x vs l) (filled-bytes line n buffer (h .0) fits (h .1))
   line-call (Listing i) e = ap (λ (k : ℕ). list i (k / 3) l) numbers
+  line-call WriteMap e = ap (λ (k : ℕ). writeMap k l) (length-take-le n buffer fits)
+  line-call ReadMap e = absurd (lined line ReadMap n e)
 
 -- ---- the answer
 
@@ -82,6 +84,7 @@ shown-fits (reply-is.Regions n) bytes records records′ e =
           (recordsIn n records′),
       records-length n records′,
     )
+shown-fits (reply-is.Map n) bytes records records′ e = omega arith
 shown-fits (reply-is.Refused k) bytes records records′ e = omega arith
 shown-fits (reply-is.RefusedAfter k w) bytes records records′ e = omega arith
 
@@ -119,7 +122,7 @@ module _ (line : List ℕ) (k : Memory) (at : ℕ) (out buffer records : List �
             answers-as m _ (called m q n true e over) whole (rw (left .memory-stays) S);
       }
 
-  -- no line has more bytes than the buffer of 256
+  -- no line asks for more bytes than the longest map has
   pub short-answered : (q : Request) (n : ℕ) → parsed line ≡ Call q n → beyond q ≡ false → length buffer < n → Leaves [] → Promised
   short-answered q n e under short left =
       record {

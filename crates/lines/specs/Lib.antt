@@ -1,3 +1,4 @@
 pub mod Session
 pub mod Promise
 pub mod Laws
+pub mod Maps

@@ -12,7 +12,7 @@ use Rattle.serving.specs.Steps.{Stands}
 use Rattle.requests.specs.declared.Request.{Request}
 use Rattle.requests.specs.declared.Reply.{Reply}
 use Rattle.requests.specs.declared.Reply.the-variants as reply-is
-use Rattle.parsing.specs.Grammar.{parsed}
+use Rattle.parsing.specs.Grammar.{longestMap, parsed}
 use Rattle.parsing.specs.declared.Line.{Line}
 use Rattle.parsing.specs.declared.Line.the-variants.{Call, Bad}
 use Rattle.digits.specs.Writing.{Wrote}
@@ -58,10 +58,10 @@ module _ (line : List ℕ) (k : Memory) (at : ℕ) (out buffer records : List �
 
 -- ---- where there is room and the memory stands for a machine
 
--- room for the longest answer, 256 bytes, and a record for each of 1,024 regions
+-- room for the longest answer, for the bytes of the longest map, and a record for each of 1,024 regions
 pub record Enough (at : ℕ) (out buffer records : List ℕ) : Type 0 where
   pub room : at + 65536 ≤ length out
-  pub bytes : length buffer ≡ 256
+  pub bytes : length buffer ≡ longestMap
   pub numbers : length records ≡ 3072
 
 pub record Answers (line : List ℕ) (m : State) (k : Memory) (at : ℕ) (out : List ℕ) (end : ℕ) (k′ : Memory) (out′ : List ℕ) : Type 0 where

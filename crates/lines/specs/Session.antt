@@ -5,7 +5,7 @@ use Prim.Native.Nat.{ℕ}
 use Rattle.machine.specs.Machine as machine
 use Rattle.requests.specs.Requests.{requested}
 use Rattle.requests.specs.declared.Request.{Request}
-use Rattle.requests.specs.declared.Request.the-variants.{Start, Page, Free, Translate, Read, Write, List as Listing}
+use Rattle.requests.specs.declared.Request.the-variants.{Start, Page, Free, Translate, Read, Write, List as Listing, WriteMap, ReadMap}
 use Rattle.hex.specs.Hex.{bytesIn, hexOf}
 use Rattle.parsing.specs.Grammar.{parsed}
 use Rattle.parsing.specs.declared.Line.{Line}
@@ -14,7 +14,8 @@ use Rattle.texts.specs.Text.{badLine}
 use Rattle.printing.specs.Text.{text}
 use Rattle.ahead.specs.Ahead.{beyond}
 
--- the call that a line's request is: a write has the bytes at the line's end, a read as many as its count, "`list`, with room for every region"
+-- the call that a line's request is: a write has the bytes at the line's end, a read and a map as many as the count, "`list`, with room for every
+-- region"; no line reads a map
 abbrev pub lineCall : Request → ℕ → List ℕ → machine.Lent → machine.Call
 lineCall (Start s n f p) count line = requested (Start s n f p) [] []
 lineCall (Page p i b) count line = requested (Page p i b) [] []
@@ -23,6 +24,8 @@ lineCall (Translate i x) count line = requested (Translate i x) [] []
 lineCall (Read i x) count line = machine.read i x count
 lineCall (Write i x) count line = machine.write i x (bytesIn (hexOf line count))
 lineCall (Listing i) count line = machine.list i 1024
+lineCall WriteMap count line = machine.writeMap count
+lineCall ReadMap count line = requested ReadMap [] []
 
 -- the text that answers a line, and the machine after it
 pub record LineAnswer : Type 0 where

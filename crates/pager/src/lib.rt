@@ -25,3 +25,8 @@ pub use reading::read;
 pub use writing::write;
 // One record a region of a space: Regions. Refused: 1, 2; 11, fewer records than regions; 9.
 pub use listing::list;
+// The whole state but for the RAM as a map file in the caller's buffer: Bytes, its length. Refused: 1; 9; 13, the buffer is shorter than the file.
+pub use saving::write_map;
+// Begins anew with the state that a map file describes, the RAM as it stands: Ok. Refused: 12, its contents are cut short or name other sizes than there
+// are; 1; 12, it is no map. Like start it needs none before it.
+pub use loading::read_map;

@@ -3,9 +3,11 @@ use mathlib.Core.Path.{_≡_, refl, sym}
 use mathlib.Core.List.{List}
 use Prim.Native.Nat.{ℕ}
 use native.Mathlib.Omega.{arith}
-use lib.ListN.{length}
+use lib.ListN.{length, take, take-append-drop}
+use lib.Seq.{length-take-le}
 use Rattle.machine.specs.Machine.{Answer}
 use Rattle.machine.specs.Answers.{doneSays, touchedSays, lookedSays, releasedSays, freeSays, translatedSays, copiedSays, listedSays}
+use Rattle.machine.specs.Answers.{mapWrittenSays}
 use Rattle.machine.specs.declared.Done as ended
 use Rattle.machine.specs.declared.Done.the-variants as done-is
 use Rattle.machine.specs.declared.Touched as touched
@@ -22,9 +24,11 @@ use Rattle.machine.specs.declared.Copied as copied
 use Rattle.machine.specs.declared.Copied.the-variants as copied-is
 use Rattle.machine.specs.declared.Listed as listed
 use Rattle.machine.specs.declared.Listed.the-variants as listed-is
+use Rattle.machine.specs.declared.MapWritten as written
+use Rattle.machine.specs.declared.MapWritten.the-variants as written-is
 use Rattle.memory.specs.Memory.{Memory}
 use Rattle.promise.specs.Did.{Did}
-use Rattle.promise.specs.Filled.{ReadDid, recordsIn, recordsFilled, ListDid}
+use Rattle.promise.specs.Filled.{ReadDid, recordsIn, recordsFilled, ListDid, bytesFilled, MapDid}
 use Rattle.requests.specs.declared.Request.{Request}
 use Rattle.requests.specs.declared.Request.the-variants as request-is
 use Rattle.requests.specs.declared.Reply.{Reply}
@@ -106,3 +110,21 @@ module _ (i : ℕ) (k : Memory) (buffer records : List ℕ) (r : Reply) where
       filled (listed-is.Regions n) d =
           rw (records-length n records′, ← d .after-last) (sym (records-numbers n records′ (omega (arith, d .fits))))
       filled (listed-is.Refused n) d = d .kept n refl
+
+-- ---- the map
+
+module _ (k : Memory) (buffer records : List ℕ) (r : Reply) where
+  pub map-serves : (buffer′ : List ℕ) (a : written.MapWritten) → length buffer′ ≡ length buffer → MapDid k a buffer buffer′
+      → ((b ws : List ℕ) → replied r b ws ≡ mapWrittenSays a (take (bytesFilled a) b)) → Serves request-is.WriteMap k buffer records r k buffer′ records
+  map-serves buffer′ a long d says =
+      let e = says buffer′ records in
+      record { did = rw e (d .did); buffer-is = rw e (filled a d); records-are = rw e (same a) }
+    where
+      same : (a : written.MapWritten) → records ≡ recordsInto (mapWrittenSays a (take (bytesFilled a) buffer′)) records
+      same (written-is.Bytes n) = refl
+      same (written-is.Refused n) = refl
+
+      filled : (a : written.MapWritten) → MapDid k a buffer buffer′ → buffer′ ≡ bytesInto (mapWrittenSays a (take (bytesFilled a) buffer′)) buffer
+      filled (written-is.Bytes n) d =
+          rw (length-take-le n buffer′ (omega (arith, d .fits, long)), ← d .after-last) (sym (take-append-drop n buffer′))
+      filled (written-is.Refused n) d = d .kept n refl

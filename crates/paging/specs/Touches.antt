@@ -1,19 +1,18 @@
 -- From a plan to the whole touch: what carrying it out may take for granted, and that it keeps the promise.
 use mathlib.Core.Path.{_≡_, refl, sym, ap, _∙_, subst}
-use mathlib.Core.Bool.{true}
+use mathlib.Core.Bool.{false≢true}
 use mathlib.Core.List.{List}
-use Prim.Native.Nat.{ℕ, zero, suc, _+_, _*_, _≤_, _<_}
+use Prim.Native.Nat.{ℕ, _*_, _<_}
 use native.Mathlib.Omega.{arith}
 use borrow.Author.Tests.{ltb-true}
 use lib.Dec.{ltb}
-use lib.ListN.{length, replicate, length-replicate}
+use lib.ListN.{replicate, length-replicate}
 use Rattle.machine.specs.declared.PageCall.the-variants.{Touch}
 use Rattle.machine.specs.declared.Touched.{Touched}
 use Rattle.machine.specs.declared.Touched.the-variants as touched-is
 use Rattle.machine.specs.Answers.{touchedSays}
-use Rattle.machine.specs.Machine.{Sizes, places, placeOf, Lent, touch, asked, Answer, old, new, refusedAfter, zeroed}
-use Rattle.machine.specs.Laws.Sizes.{fit}
-use Rattle.memory.specs.Memory.{Memory, memory, at, sizesOf, lengths}
+use Rattle.machine.specs.Machine.{Sizes, places, placeOf, Lent, everyTable, touch, asked, Answer, old, new, refusedAfter, zeroed}
+use Rattle.memory.specs.Memory.{Memory, memory, sizesOf, lengths}
 use Rattle.memory.specs.declared.Head.{Head}
 use Rattle.pool.specs.declared.Taken.{Taken}
 use Rattle.lookup.specs.declared.Sight.the-variants as sight-is
@@ -22,8 +21,6 @@ use Rattle.planning.specs.declared.Plan.the-variants as plan-is
 use Rattle.promise.specs.Did.{Did}
 use Rattle.promise.specs.Refuses.{own-answer}
 use Rattle.laws.specs.Models.{checkOf, everyLength}
-use Rattle.pool.specs.Models.{takenFrom}
-use Rattle.planning.specs.Models.{topOk}
 use Rattle.planning.specs.Fits.{Planned}
 use Rattle.planning.specs.Planning.{new-inside, plan-maps, fit-top}
 use Rattle.paging.specs.Models.{planSays, planLeaves}
@@ -35,8 +32,8 @@ use Rattle.laws.specs.Told.{early-refused}
 use Rattle.paging.specs.Touching.{touch-did}
 use Rattle.promise.specs.Shown.{frameOf}
 use Rattle.lookup.specs.Sights.{frame-seen, lookable, still-ready, ready-long}
-use Rattle.pool.specs.Takes.{TakeableFrom, Top}
 use Rattle.entries.specs.Fits.{Mappable, Mapped}
+use Rattle.entries.specs.Mappable.{inside-mappable}
 use Rattle.paging.specs.Fits.{Touchable, RamLong}
 
 -- ---- a touch that passed the checks
@@ -67,18 +64,6 @@ still-touchable k k′ same long y =
       link-long = omega (arith, ap (λ (z : Sizes). z .frames) same, ap (λ (l : Lent). l .link) long, y .link-long);
     }
 
--- ---- a plan to map a page
-
--- the frame can be taken, and the newest page read
-takeable : (h : Head) (link : List ℕ) (n : ℕ) → takenFrom link h n .frame < h .frames → h .frames ≤ 65536 → h .frames ≤ length link → TakeableFrom h link n
-takeable h link zero l few long = omega arith
-takeable h link (suc n) l few long = omega arith
-
-top-readable : (table stack : List ℕ) (t a n : ℕ) → topOk stack t a n ≡ true → a + n < t → t ≤ 262144 → t ≤ length stack → t ≤ length table
-    → Top table stack a n
-top-readable table stack t a zero ok l few long-stack long-table = tt
-top-readable table stack t a (suc n) ok l few long-stack long-table = (omega arith, omega arith, omega (arith, ltb-true (at stack (a + n)) t ok))
-
 -- ---- the whole touch
 
 module _ (h : Head) (i b : ℕ) (index count table helper stack cache link : List ℕ) (y : Touchable h i b index count table helper stack cache link) (r : Plan)
@@ -95,26 +80,13 @@ module _ (h : Head) (i b : ℕ) (index count table helper stack cache link : Lis
       let ram : List ℕ = replicate {A = ℕ} (z .frames * z .page) 0 in
       let k = memory h index count table helper stack cache link ram in
       let known = y .ready in
-      let long-link = y .link-long in
       let m = plan-maps h count stack (places z) a c (planned .sight) (sym (planned .is) ∙ is) in
       let seen : SeenAt k i b (sight-is.Unmapped a c) = rw (m .seen-as) at (planned .seen) in
-      let f = fit z (known .sizes-ok) in
       let g = new-inside k i b (passes ram (omega (arith, length-replicate {A = ℕ} (z .frames * z .page) 0))) a c seen (m .some-left) (m .fits) in
       rw ep
-      (record {
-        takeable = takeable h link (h .many) (g .frame) (f .few-frames) long-link;
-        frame = omega (arith, g .frame, long-link);
-        top =
-            top-readable table stack (places z) a (at count a) (fit-top h count stack (places z) a (m .fits)) (g .top) (f .few-places) (known .stack-long)
-            (known .table-long);
-        next = omega (arith, g .top, known .stack-long);
-        few = omega (arith, g .top, f .few-places);
-        small = omega (arith, g .place, f .few-places);
-        start = omega (arith, g .start, known .count-long);
-        in-table = omega (arith, g .place, known .table-long);
-        in-helper = omega (arith, g .place, known .helper-long);
-        in-cache = omega (arith, g .place, known .cache-long);
-      })
+      (inside-mappable k _ a (known .sizes-ok)
+      (ready-long h i b index count table helper stack cache known link ram everyTable (λ _. y .link-long) (λ e. absurd (false≢true e)))
+      g (fit-top h count stack (places z) a (m .fits)))
 
   module _ (ram : List ℕ) (long : RamLong h ram) where
     abbrev before : Memory

@@ -15,7 +15,7 @@ use Rattle.requests.specs.declared.Request.the-variants.{Page, Translate}
 use Rattle.parsing.specs.declared.Named.the-variants as name-is
 use Rattle.parsing.specs.declared.Line.{Line}
 use Rattle.parsing.specs.Grammar.{startLine, pairLine, freeLine, readLine, writeLine, listLine, startWord, freeWord, translateWord, readWord, writeWord}
-use Rattle.parsing.specs.Grammar.{listWord, pageNamed, parsed}
+use Rattle.parsing.specs.Grammar.{mapLine, listWord, mapWord, pageNamed, parsed}
 
 front : (ws cs : List ℕ) → begins ws cs ≡ true → cs ≡ ws ++ drop (length ws) cs
 unfolding begins
@@ -66,3 +66,7 @@ module _ (rest : List ℕ) where
   pub list-is : parsed (listWord ++ rest) ≡ listLine rest
   unfolding begins parsed
   list-is = refl
+
+  pub map-is : parsed (mapWord ++ rest) ≡ mapLine rest
+  unfolding begins parsed
+  map-is = refl

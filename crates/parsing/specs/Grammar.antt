@@ -1,7 +1,7 @@
 -- The grammar of a line: which call it is, or none. Definitions only; document 01's words stand beside them in quotation marks.
 use mathlib.Core.Bool.{cond}
 use mathlib.Core.List.{List, [], _∷_}
-use Prim.Native.Nat.{ℕ}
+use Prim.Native.Nat.{ℕ, _+_, _*_}
 use lib.Dec.{leb}
 use lib.ListN.{length, drop}
 use Rattle.machine.specs.declared.PageCall.{PageCall}
@@ -11,7 +11,7 @@ use Rattle.hex.specs.declared.Bytes.{Bytes}
 use Rattle.hex.specs.declared.Bytes.the-variants.{Count, Wrong}
 use Rattle.hex.specs.Hex.{hexCount}
 use Rattle.requests.specs.declared.Request.{Request}
-use Rattle.requests.specs.declared.Request.the-variants.{Start, Page, Free, Translate, Read, Write, List as Listing}
+use Rattle.requests.specs.declared.Request.the-variants.{Start, Page, Free, Translate, Read, Write, List as Listing, WriteMap}
 use Rattle.parsing.specs.declared.Named.{Named}
 use Rattle.parsing.specs.declared.Named.the-variants as name-is
 use Rattle.parsing.specs.declared.Line.{Line}
@@ -40,7 +40,7 @@ andCount Wrong k = Bad
 abbrev pub bytesOf : List ℕ → (ℕ → Line) → Line
 bytesOf cs k = andCount (hexCount cs) k
 
--- ---- each call, after its name; the line's count is of the bytes that a read asks for or a write has
+-- ---- each call, after its name; the line's count is of the bytes that a read asks for, a write has or a map may take
 
 abbrev pub startLine : List ℕ → Line
 startLine cs = field cs (λ s cs. field cs (λ n cs. field cs (λ f cs. field cs (λ p cs. ended cs (Call (Start s n f p) 0)))))
@@ -61,6 +61,14 @@ writeLine cs = field cs (λ i cs. field cs (λ x cs. bytesOf cs (λ n. Call (Wri
 
 abbrev pub listLine : List ℕ → Line
 listLine cs = field cs (λ i cs. ended cs (Call (Listing i) 0))
+
+-- the bytes of the longest map within a session's limits: contents of 64 spaces, then 1,024 regions without a page and 128 pages with a frame
+abbrev pub longestMap : ℕ
+longestMap = 4 * ((3 * 64 + 7) + 3 * 1024 + 2 * 128)
+
+-- W-202: "Write the whole machine state but for the RAM to a lent buffer", one with room for every map
+abbrev pub mapLine : List ℕ → Line
+mapLine cs = ended cs (Call WriteMap longestMap)
 
 -- ---- the calls' names
 
@@ -108,6 +116,10 @@ writeWord = 119 ∷ 114 ∷ 105 ∷ 116 ∷ 101 ∷ []
 abbrev pub listWord : List ℕ
 listWord = 108 ∷ 105 ∷ 115 ∷ 116 ∷ []
 
+-- map
+abbrev pub mapWord : List ℕ
+mapWord = 109 ∷ 97 ∷ 112 ∷ []
+
 -- the calls with a space and a page, by name
 abbrev pub pageNames : List (List ℕ × PageCall)
 pageNames =
@@ -147,4 +159,5 @@ parsed cs =
     (cond (begins translateWord cs) (pairLine (λ i x. Translate i x) (drop 9 cs))
     (cond (begins readWord cs) (readLine (drop 4 cs))
     (cond (begins writeWord cs) (writeLine (drop 5 cs))
-    (cond (begins listWord cs) (listLine (drop 4 cs)) Bad))))))
+    (cond (begins listWord cs) (listLine (drop 4 cs))
+    (cond (begins mapWord cs) (mapLine (drop 3 cs)) Bad)))))))

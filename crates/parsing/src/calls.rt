@@ -1,4 +1,5 @@
 // Each call after its name, and the line as a whole.
+use crate::LONGEST_MAP;
 use crate::Line;
 use crate::Named;
 use crate::Pair;
@@ -12,7 +13,7 @@ use requests::Request;
 ghost use mathlib.Core.Path.{_≡_};
 ghost use Prim.Native.Nat.{ℕ, _≤_};
 ghost use lib.ListN.{length, drop};
-ghost use Rattle.parsing.specs.Grammar.{startLine, pairLine, freeLine, readLine, writeLine, listLine, orNamed, pageNamed, parsed};
+ghost use Rattle.parsing.specs.Grammar.{startLine, pairLine, freeLine, readLine, writeLine, listLine, mapLine, orNamed, pageNamed, parsed};
 ghost use Rattle.parsing.specs.Steps.{paired};
 ghost use Rattle.requests.specs.declared.Request.{Request as RequestType};
 ghost use Rattle.requests.specs.declared.Request.the-variants as request-is;
@@ -137,6 +138,16 @@ fn list_line(line: &[u8], at: usize) -> Line
     Line::Call(Request::List(i), 0)
 }
 
+fn map_line(line: &[u8], at: usize) -> Line
+    requires { ⌜ at ≤ length (now line) ⌝ }
+    ensures { λ r. ⌜ r ≡ mapLine (drop at (now (line .entry))) ⌝ }
+{
+    if at != line.len() {
+        return Line::Bad;
+    }
+    Line::Call(Request::WriteMap, LONGEST_MAP)
+}
+
 // What a line was found to name, else this call if the line begins with its name.
 fn or_named(found: Named, line: &[u8], word: &[u8], call: PageCall) -> Named
     ensures { λ r. ⌜ r ≡ orNamed found (now (line .entry)) (now (word .entry)) call ⌝ }
@@ -187,6 +198,9 @@ pub fn parse(line: &[u8]) -> Line
     }
     if begins_with(line, b"list") {
         return list_line(line, 4);
+    }
+    if begins_with(line, b"map") {
+        return map_line(line, 3);
     }
     Line::Bad
 }

@@ -5,7 +5,10 @@ pub use calls::parse;
 use machine::PageCall;
 use requests::Request;
 
-// What a line says. The count is of the bytes that a read asks for or a write has, else 0.
+// The bytes of the longest map within a session's limits, 64 spaces, 1,024 places and 128 frames: `longestMap`.
+pub const LONGEST_MAP: usize = 14_108;
+
+// What a line says. The count is of the bytes that a read asks for, a write has or a map may take, else 0.
 pub enum Line {
     Call(Request, usize),
     Bad,

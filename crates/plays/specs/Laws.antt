@@ -1,28 +1,30 @@
 -- Playing codes: a list after another, and what follows of demands 2 and 3.
-use mathlib.Core.Path.{_≡_, refl, sym, ap, _∙_}
-use mathlib.Core.List.{List, [], _∷_, _++_}
+use mathlib.Core.Path.{_≡_, refl, sym, ap, _∙_, subst}
+use mathlib.Core.List.{List, _∷_, _++_}
+use mathlib.Core.Option.{Option, some, Option·none-ne-some}
 use mathlib.Core.Logic.{inl}
 use Prim.Native.Nat.{ℕ, _+_}
 use native.Mathlib.Nat.{add-zero, zero-add, suc-add, add-suc}
 use native.Mathlib.Omega.{arith}
 use lib.ListN.{length}
-use Rattle.machine.specs.Machine.{Sizes, State, Lent, start, asked, accepted, Answer, done, after, Out, begun, unstarted, step}
-use Rattle.memory.specs.Memory.{Memory, lengths}
+use Rattle.machine.specs.Machine.{Sizes, State, Call as MachineCall, start, page, free, translate, read, write, list, writeMap, readMap, facts, asked, Answer}
+use Rattle.machine.specs.Machine.{done, after, Out, withRam, unstarted, step}
+use Rattle.machine.specs.Laws.Calls.{begins-so}
+use Rattle.memory.specs.Memory.{Memory, sizesOf, lengths}
 use Rattle.promise.specs.Holds.{Roomy}
-use Rattle.promise.specs.Did.{Did}
+use Rattle.promise.specs.Did.{BeginsBy}
 use Rattle.laws.specs.Refusals.{passed-step}
 use Rattle.demands.specs.History.{Event, lent-front, Run, none, next}
 use Rattle.demands.specs.Demands.{machineAt, Demand3}
 use Rattle.demands.specs.Theorems.{demand-3}
 use Rattle.serving.specs.Steps.{whole-step, Stands, serve-follows}
 use Rattle.requests.specs.declared.Request.{Request}
-use Rattle.requests.specs.declared.Request.the-variants.{Start}
 use Rattle.decoding.specs.declared.Parts.{Parts}
 use Rattle.decoding.specs.declared.Code.{Code}
 use Rattle.decoding.specs.declared.Code.the-variants.{Call}
 use Rattle.plays.specs.Plays.{Desk, called, laid, Played, playOne, plays, Turns}
 use Rattle.plays.specs.Plays.Turns.{none as no-turn, skip, turn}
-use Rattle.plays.specs.Promise.{byMachine, StartsFirst, Plays}
+use Rattle.plays.specs.Promise.{byMachine, BeginsFirst, Plays}
 
 -- ---- codes after codes
 
@@ -58,52 +60,69 @@ module _ (codes : List ℕ) (wholeBytes wholeRecords : ℕ) where
 
 -- ---- demands 2 and 3
 
--- a machine begins with an accepted start, whatever it was before
-start-step : (m : State) (z : Sizes) (l : Lent) → asked z (start z l) ≡ 0 → step m (start z l) ≡ record { answer = done; after = begun z (m .ram) }
-unfolding asked accepted
-start-step m z l e = passed-step m (start z l) e
+-- what begins a state is asked the same whatever the sizes before
+same-asked : (y z : Sizes) (m : State) (c : MachineCall) → facts c .begins ≡ some m → asked y c ≡ asked z c
+unfolding asked
+same-asked y z m (start x l) is = refl
+same-asked y z m (page p i b l) is = absurd (Option·none-ne-some m is)
+same-asked y z m free is = absurd (Option·none-ne-some m is)
+same-asked y z m (translate i x l) is = absurd (Option·none-ne-some m is)
+same-asked y z m (read i x n l) is = absurd (Option·none-ne-some m is)
+same-asked y z m (write i x vs l) is = absurd (Option·none-ne-some m is)
+same-asked y z m (list i room l) is = absurd (Option·none-ne-some m is)
+same-asked y z m (writeMap room l) is = absurd (Option·none-ne-some m is)
+same-asked y z m (readMap file l) is = refl
+
+-- a machine begins with the call that is accepted, whatever it was before
+begun-step : (m s : State) (z : Sizes) (c : MachineCall) → facts c .begins ≡ some s → asked z c ≡ 0
+    → step m c ≡ record { answer = done; after = withRam s (m .ram) }
+begun-step m s z c is e = passed-step m c (same-asked (m .sizes) z s c is ∙ e) ∙ begins-so m s c is
 
 -- so its player's first move is this
-first-play : (z : Sizes) (k : Memory) (d : Desk) (q : Request) (p : Parts) (a : Answer) → q ≡ Start (z .spaces) (z .pages) (z .frames) (z .page) → a ≡ done
-    → asked z (start z (lengths k)) ≡ 0
-    → playOne 0 (lengths k) (Call q p) (record { state = unstarted (k .ram); desk = d }) ≡ record { state = begun z (k .ram); desk = laid 0 p a d }
-first-play z k d q p a eq ea e =
-    rw (eq, ea) (ap {B = Played} (λ (o : Out). record { state = o .after; desk = laid 0 p (o .answer) d }) (start-step (unstarted (k .ram)) z (lengths k) e))
+first-play : (m : State) (k : Memory) (d : Desk) (q : Request) (p : Parts) (a : Answer) → facts (called q p d (lengths k)) .begins ≡ some m
+    → asked (sizesOf (k .head)) (called q p d (lengths k)) ≡ 0 → a ≡ done
+    → playOne 0 (lengths k) (Call q p) (record { state = unstarted (k .ram); desk = d }) ≡ record { state = withRam m (k .ram); desk = laid 0 p a d }
+first-play m k d q p a is e t =
+    let begun = begun-step (unstarted (k .ram)) m (sizesOf (k .head)) (called q p d (lengths k)) is e in
+    rw t (ap {B = Played} (λ (o : Out). record { state = o .after; desk = laid 0 p (o .answer) d }) begun)
 
-record FromStart (codes : List ℕ) (n : ℕ) (z : Sizes) (k : Memory) (d : Desk) (es : List Event) (k′ : Memory) (d′ : Desk) : Type 0 where
+record FromFirst (codes : List ℕ) (n : ℕ) (m : State) (k : Memory) (d : Desk) (es : List Event) (k′ : Memory) (d′ : Desk) : Type 0 where
   desk-is : d′ ≡ byMachine codes n k d (unstarted (k .ram)) .desk
   first : Event
   later : List Event
   events-are : es ≡ first ∷ later
-  demand : Roomy (machineAt (begun z []) k later .sizes) k′ → Demand3 (begun z []) k later k′ (machineAt (begun z []) k later)
+  demand : Roomy (machineAt m k later .sizes) k′ → Demand3 m k later k′ (machineAt m k later)
 
-from-start : {n : ℕ} {k k′ : Memory} {d d′ : Desk} {es : List Event} (codes : List ℕ) (z : Sizes) → StartsFirst codes n k d z
-    → Turns codes (length (d .bytes)) (length (d .records)) 0 n k d es k′ d′ → FromStart codes n z k d es k′ d′
-unfolding plays asked
-from-start codes z b no-turn = absurd (omega (arith, b .some))
-from-start codes z b (skip e t) = absurd (let x : _≡_ {A = ℕ} 0 1 = cc (b .first) in omega arith)
-from-start codes z b (turn {n = n} {k = k} {k₁ = k₁} {d = d} {q = q} {p = p} {a = a} e did same t) =
+from-first : {n : ℕ} {k k′ : Memory} {d d′ : Desk} {es : List Event} (codes : List ℕ) (m : State) → BeginsFirst codes n k d m
+    → Turns codes (length (d .bytes)) (length (d .records)) 0 n k d es k′ d′ → FromFirst codes n m k d es k′ d′
+unfolding plays
+from-first codes m b no-turn = absurd (omega (arith, b .any))
+from-first codes m b (skip e t) = absurd (let x : _≡_ {A = ℕ} 0 1 = cc (b .first) in omega arith)
+from-first codes m b (turn {n = n} {k = k} {k₁ = k₁} {d = d} {q = q} {p = p} {a = a} e did same t) =
     let bytes = length (d .bytes) in
     let records = length (d .records) in
-    let same-request : q ≡ Start (z .spaces) (z .pages) (z .frames) (z .page) = cc (b .first) in
-    let started : Did (start z) k a k₁ = rw same-request at did in
-    let begins = started .begins (b .accepted) in
-    let move = ap (λ (c : Code). playOne 0 (lengths k) c (record { state = unstarted (k .ram); desk = d })) e
-    ∙ first-play z k d q p a same-request (begins .0) (b .accepted) in
-    let beside = turns-beside codes bytes records (begun z (k .ram)) t (inl (begins .1)) in
+    let same-request : q ≡ b .request = cc (b .first) in
+    let same-parts : p ≡ b .parts = cc (b .first) in
+    let c = called q p d in
+    let is : facts (c (lengths k)) .begins ≡ some m = rw (same-request, same-parts) (b .begins) in
+    let passes : asked (sizesOf (k .head)) (c (lengths k)) ≡ 0 = rw (same-request, same-parts) (b .accepted) in
+    let begun = subst (λ (o : Option State). BeginsBy o (asked (sizesOf (k .head)) (c (lengths k))) k a k₁) is (did .begins) passes in
+    let move = ap (λ (x : Code). playOne 0 (lengths k) x (record { state = unstarted (k .ram); desk = d })) e
+    ∙ first-play m k d q p a is passes (begun .0) in
+    let beside = turns-beside codes bytes records (withRam m (k .ram)) t (inl (begun .1)) in
     record {
       desk-is = (rw same at (beside .desk-is)) ∙ ap (λ (x : Played). plays codes bytes records (lengths k) 1 n x .desk) (sym move);
       first = _;
       later = _;
       events-are = refl;
-      demand = demand-3 (begun z []) k _ _
+      demand = demand-3 m k _ _
           (record {
             started = k₁;
             beginning = record {
-              first = record { call = start z; lent = lengths k; answer = done };
-              begins = refl;
-              accepted = refl;
-              step = whole-step (Start (z .spaces) (z .pages) (z .frames) (z .page)) [] [] k done k₁ (rw (begins .0) at started);
+              first = record { call = c; lent = lengths k; answer = a };
+              begins = is;
+              accepted = begun .0;
+              step = whole-step q _ _ k a k₁ did;
             };
             run = turns-run codes bytes records t;
           });
@@ -115,7 +134,7 @@ played codes es t =
     record {
       events = es;
       turns = t;
-      demand-2 = λ z b. from-start codes z b t .desk-is;
+      demand-2 = λ m b. from-first codes m b t .desk-is;
       honest = λ m S. let b = turns-beside codes _ _ m t S in (b .desk-is, b .stands);
-      demand-3 = λ z b. let f = from-start codes z b t in (f .first, f .later, f .events-are, f .demand);
+      demand-3 = λ m b. let f = from-first codes m b t in (f .first, f .later, f .events-are, f .demand);
     }

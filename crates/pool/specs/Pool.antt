@@ -101,7 +101,7 @@ module _ (m : State) (s : Sound m) where
 
 -- ---- the frames never used
 
-unused-none : (n f : ℕ) → f ≤ n → unused n f ≡ []
+pub unused-none : (n f : ℕ) → f ≤ n → unused n f ≡ []
 unfolding tabulate
 unused-none n f h = let e : f - n ≡ 0 = omega arith in rw e
 

@@ -38,7 +38,7 @@ regions-text n bytes ws h = rw (records-length n ws, records-are n ws h)
 
 module _ (at : ℕ) (out : List ℕ) (r : Reply) (bytes records : List ℕ) where
   -- nothing is said where the four tests can't all hold
-  unsaid : (at + 65536 ≤ length out → length bytes ≤ 256 → length records ≤ 3072 → shown r ≤ length records → ⊥) → Says at out r bytes records at out
+  unsaid : (at + 65536 ≤ length out → length bytes ≤ 32736 → length records ≤ 3072 → shown r ≤ length records → ⊥) → Says at out r bytes records at out
   unfolding saidText
   unsaid never = go (roomy at out r bytes records) refl
     where
@@ -46,16 +46,16 @@ module _ (at : ℕ) (out : List ℕ) (r : Reply) (bytes records : List ℕ) wher
       go true e =
           let p₃ = both _ (leb (shown r) (length records)) e in
           let p₂ = both _ (leb (length records) 3072) (p₃ .0) in
-          let p₁ = both (leb (at + 65536) (length out)) (leb (length bytes) 256) (p₂ .0) in
+          let p₁ = both (leb (at + 65536) (length out)) (leb (length bytes) 32736) (p₂ .0) in
           absurd
-          (never (leb-true (at + 65536) (length out) (p₁ .0)) (leb-true (length bytes) 256 (p₁ .1)) (leb-true (length records) 3072 (p₂ .1))
+          (never (leb-true (at + 65536) (length out) (p₁ .0)) (leb-true (length bytes) 32736 (p₁ .1)) (leb-true (length records) 3072 (p₂ .1))
           (leb-true (shown r) (length records) (p₃ .1)))
       go false e = wrote-none at out
 
   pub short-out : length out < at + 65536 → Says at out r bytes records at out
   short-out h = unsaid (λ room few-bytes few-records shown-in. omega arith)
 
-  pub many-bytes : 256 < length bytes → Says at out r bytes records at out
+  pub many-bytes : 32736 < length bytes → Says at out r bytes records at out
   many-bytes h = unsaid (λ room few-bytes few-records shown-in. omega arith)
 
   pub many-records : 3072 < length records → Says at out r bytes records at out
@@ -66,6 +66,6 @@ module _ (at : ℕ) (out : List ℕ) (r : Reply) (bytes records : List ℕ) wher
   records-lack q e h = unsaid (λ room few-bytes few-records shown-in. let shows = rw e at shown-in in omega arith)
 
   -- a reply q with room
-  pub said : (q : Reply) → r ≡ q → at + 65536 ≤ length out → length bytes ≤ 256 → length records ≤ 3072 → shown q ≤ length records
+  pub said : (q : Reply) → r ≡ q → at + 65536 ≤ length out → length bytes ≤ 32736 → length records ≤ 3072 → shown q ≤ length records
       → {end : ℕ} {out′ : List ℕ} → Wrote at out (text (replied q bytes records)) end out′ → Says at out r bytes records end out′
   said q e room few-bytes few-records shown-in w = rw (e, said-whole at out q bytes records room few-bytes few-records shown-in) w

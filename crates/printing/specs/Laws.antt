@@ -9,13 +9,13 @@ use Rattle.requests.specs.declared.Reply.{Reply}
 use Rattle.printing.specs.Text.{text}
 use Rattle.printing.specs.Writing.{shown, saidText}
 
-pub said-whole : (at : ℕ) (out : List ℕ) (r : Reply) (bytes records : List ℕ) → at + 65536 ≤ length out → length bytes ≤ 256 → length records ≤ 3072
+pub said-whole : (at : ℕ) (out : List ℕ) (r : Reply) (bytes records : List ℕ) → at + 65536 ≤ length out → length bytes ≤ 32736 → length records ≤ 3072
     → shown r ≤ length records → saidText at out r bytes records ≡ text (replied r bytes records)
 unfolding saidText
 said-whole at out r bytes records room few-bytes few-records shown-in =
     rw (
       le-leb (at + 65536) (length out) room,
-      le-leb (length bytes) 256 few-bytes,
+      le-leb (length bytes) 32736 few-bytes,
       le-leb (length records) 3072 few-records,
       le-leb (shown r) (length records) shown-in,
     )

@@ -22,12 +22,14 @@ shown (reply-is.Frames n) = 0
 shown (reply-is.At p) = 0
 shown reply-is.Bytes = 0
 shown (reply-is.Regions n) = 3 * n
+shown (reply-is.Map n) = 0
 shown (reply-is.Refused k) = 0
 shown (reply-is.RefusedAfter k w) = 0
 
--- a session's longest answers are 256 bytes and the 3,072 numbers of 1,024 regions; at most 20 digits and a blank each, all of them fit in 65,536
+-- a session's longest answers are a map and the 3,072 numbers of 1,024 regions; 65,536 have room for a word and 32,736 bytes, two digits each, and for
+-- these numbers, at most 20 digits and a blank each
 abbrev pub roomy : ℕ → List ℕ → Reply → List ℕ → List ℕ → Bool
-roomy at out r bytes records = leb (at + 65536) (length out) && leb (length bytes) 256 && leb (length records) 3072 && leb (shown r) (length records)
+roomy at out r bytes records = leb (at + 65536) (length out) && leb (length bytes) 32736 && leb (length records) 3072 && leb (shown r) (length records)
 
 -- the reply's text, or none without that room
 unfoldable pub saidText : ℕ → List ℕ → Reply → List ℕ → List ℕ → List ℕ

@@ -4,6 +4,7 @@ use texts::put_absent;
 use texts::put_at;
 use texts::put_bytes;
 use texts::put_free;
+use texts::put_map;
 use texts::put_new;
 use texts::put_no;
 use texts::put_ok;
@@ -26,7 +27,7 @@ pub fn say(out: &mut [u8], at: usize, reply: Reply, bytes: &[u8], records: &[u32
     if out.len() - at < 65536 {
         return at;
     }
-    if 256 < bytes.len() {
+    if 32736 < bytes.len() {
         return at;
     }
     if 3072 < records.len() {
@@ -52,6 +53,7 @@ pub fn say(out: &mut [u8], at: usize, reply: Reply, bytes: &[u8], records: &[u32
             }
             put_regions(out, at, n, &records[..k])
         }
+        Reply::Map(n) => put_map(out, at, bytes, n),
         Reply::Refused(k) => put_no(out, at, k),
         Reply::RefusedAfter(k, w) => put_refusal(out, at, k, w),
     }

@@ -1,8 +1,8 @@
 -- Wrong behaviours that the promise refuses, on any memory. A promise that allows one of them breaks a law here.
 use mathlib.Core.Path.{_≡_, refl, sym, ap, _∙_, subst}
-use mathlib.Core.Bool.{true}
+use mathlib.Core.Bool.{Bool, true, false}
 use mathlib.Core.List.{List, [], _∷_, List·Memᴰ, List·Memᴰ·head, List·Memᴰ·tail}
-use mathlib.Core.Logic.{_≢_, inl, inr}
+use mathlib.Core.Logic.{_≢_, _⊎_, inl, inr}
 use Prim.Native.Nat.{ℕ, zero, suc, _+_, _*_, _/_, _≤_, _<_}
 use native.Mathlib.Omega.{arith}
 use lib.ListN.{length, getD, drop as dropped}
@@ -11,8 +11,12 @@ use Rattle.sequence.specs.Changes.{changed-zero, changed-then}
 use Rattle.machine.specs.Machine.{Sizes, placeOf, State, begun, spanPages, Lent, Call, start, mark, touch, look, release, write, facts, asked, answer, after}
 use Rattle.machine.specs.Machine.{refusal}
 use Rattle.machine.specs.Machine.{Kind, ended, touched, looked, released, counted, translated, copied, listed, refusalOf, Answer, done, old, new, resident}
-use Rattle.machine.specs.Machine.{absent, pages, frames, at, bytes, regions, refused, refusedAfter, Effect, unchanged, prepared, startPut, pageMapped}
-use Rattle.machine.specs.Machine.{regionEmptied, spanStored, zeroed}
+use Rattle.machine.specs.Machine.{absent, pages, frames, at, bytes, regions, refused, refusedAfter, Effect, unchanged, prepared, refilled, startPut}
+use Rattle.machine.specs.Machine.{places, writeMap, readMap, lends, everyTable, lentOk, firstOf, fileFirst}
+use Rattle.machine.specs.Machine.{pageMapped, mapWritten, mapFile, regionEmptied, spanStored, zeroed}
+use Rattle.words.specs.Words.{wordsIn}
+use Rattle.machine.specs.Map.{sizesIn}
+use Rattle.machine.specs.MapRules.{contentsOk, fileOk}
 use Rattle.machine.specs.Laws.Zeroed.{length-zeroed, zeroed-beyond}
 use Rattle.machine.specs.Claims.{PlaceOf}
 use Rattle.memory.specs.Memory.{Memory, memory, withBytes, sizesOf, placeBy, lengths}
@@ -42,6 +46,7 @@ Own z q (frames n) = (q ≡ counted) × (n ≤ z .frames)
 Own z q (at p) = (q ≡ translated) × (p < z .frames * z .page)
 Own z q (bytes vs) = q ≡ copied
 Own z q (regions rs) = q ≡ listed
+Own z q (mapFile vs) = q ≡ mapWritten
 Own z q (refused n) = refusalOf q n ≡ refused n
 Own z q (refusedAfter n w) = refusalOf q n ≡ refusedAfter n 0
 
@@ -54,6 +59,7 @@ own-refusal z counted n = (refl, refl)
 own-refusal z translated n = (refl, refl)
 own-refusal z copied n = (refl, refl)
 own-refusal z listed n = (refl, refl)
+own-refusal z mapWritten n = (refl, refl)
 
 own-later : (z : Sizes) (c : Call) (a : Answer) → Later z c a → Own z (facts c .kind) a
 own-later z c done l = l
@@ -66,6 +72,7 @@ own-later z c (frames n) l = l
 own-later z c (at p) l = l
 own-later z c (bytes vs) l = l
 own-later z c (regions rs) l = l
+own-later z c (mapFile vs) l = l
 own-later z c (refused n) l = l .1
 own-later z c (refusedAfter n w) l = l .1
 
@@ -84,6 +91,7 @@ member (m ∷ ns) n (inr x) = List·Memᴰ·tail (member ns n x)
 abbrev pub within : Effect → Memory → Memory → Memory
 within unchanged k k′ = k
 within (prepared z) k k′ = memory (k′ .head) (k′ .index) (k′ .count) (k .table) (k .helper) (k .stack) (k .cache) (k .link) (k .ram)
+within (refilled z) k k′ = memory (k′ .head) (k′ .index) (k′ .count) (k′ .table) (k′ .helper) (k′ .stack) (k′ .cache) (k′ .link) (k .ram)
 within (startPut i b) k k′ = memory (k .head) (k′ .index) (k .count) (k .table) (k .helper) (k .stack) (k .cache) (k .link) (k .ram)
 within (pageMapped i b) k k′ = memory (k′ .head) (k .index) (k′ .count) (k′ .table) (k′ .helper) (k′ .stack) (k′ .cache) (k′ .link) (k′ .ram)
 within (regionEmptied i b) k k′ = memory (k′ .head) (k .index) (k′ .count) (k .table) (k .helper) (k .stack) (k .cache) (k′ .link) (k .ram)
@@ -100,6 +108,8 @@ words-then w v = record { few = changed-then (w .few) (v .few); excess = v .exce
 within-by : (e : Effect) (n : ℕ) (k k′ : Memory) → BoundsBy e n k k′ → k′ ≡ within e k k′
 within-by unchanged n k k′ b = b
 within-by (prepared z) n k k′ b = λ j. memory (k′ .head) (k′ .index) (k′ .count) (b .table j) (b .helper j) (b .stack j) (b .cache j) (b .link j) (b .ram j)
+within-by (refilled z) n k k′ b = λ j.
+    memory (k′ .head) (k′ .index) (k′ .count) (k′ .table) (k′ .helper) (k′ .stack) (k′ .cache) (k′ .link) (b .ram j)
 within-by (startPut i p) n k k′ b = let w = b .words in let e = refl in λ j.
     memory (b .head j) (k′ .index) (words-same e (w .count) j) (words-same e (w .table) j) (words-same e (w .helper) j) (words-same e (w .stack) j)
     (words-same e (w .cache) j)
@@ -260,3 +270,33 @@ module _ (i x : ℕ) (k : Memory) (a : Answer) (k′ : Memory) where
   -- an empty one changes nothing
   pub write-empty : Did (write i x []) k a k′ → k′ ≡ k
   write-empty d = none-written (d .bounds) (omega (arith, d .bounds .maps .few))
+
+-- ---- W-202
+
+module _ (k : Memory) (a : Answer) (k′ : Memory) where
+  -- writing a map changes nothing of the memory
+  pub map-keeps : (room : ℕ) → Did (writeMap room) k a k′ → k′ ≡ k
+  map-keeps room d = d .bounds
+
+  module _ (file : List ℕ) (d : Did (readMap file) k a k′) where
+    -- reading one leaves the RAM, and of the tables what lies past the file's sizes
+    pub reading-keeps-ram : k′ .ram ≡ k .ram
+    reading-keeps-ram = d .bounds .ram
+
+    pub reading-keeps-excess : let z = sizesIn (wordsIn file) in
+        (dropped (places z) (k′ .table) ≡ dropped (places z) (k .table)) × (dropped (z .frames) (k′ .link) ≡ dropped (z .frames) (k .link))
+    reading-keeps-excess = (d .bounds .table .excess, d .bounds .link .excess)
+
+    -- a file that is no map is refused with 12, or before that with 1, and changes nothing
+    pub no-map-refused : fileOk file ≡ false → ((a ≡ refused 12) ⊎ (a ≡ refused 1)) × (k′ ≡ k)
+    unfolding asked
+    no-map-refused bad = go (contentsOk file) (lentOk (sizesIn (wordsIn file)) (lends everyTable (lengths k))) (rw bad at (d .asks))
+      where
+        stays : (n : ℕ) → a ≡ refused n → k′ ≡ k
+        stays n e = d .stays (ap still e)
+
+        go : (c b : Bool) → Exactly (fileFirst c false (firstOf b true true)) (sizesOf (k .head)) (readMap file (lengths k)) a
+            → ((a ≡ refused 12) ⊎ (a ≡ refused 1)) × (k′ ≡ k)
+        go false b x = (inl x, stays 12 x)
+        go true false x = (inr x, stays 1 x)
+        go true true x = (inl x, stays 12 x)

@@ -1,7 +1,7 @@
 -- What a request asks for, what a reply says, and what it leaves in the caller's buffers.
 use mathlib.Core.List.{List, [], _∷_, _++_}
 use Prim.Native.Nat.{ℕ, _*_, _/_}
-use lib.ListN.{length, drop}
+use lib.ListN.{length, take, drop}
 use Rattle.machine.specs.Machine as machine
 use Rattle.machine.specs.declared.Region.{Region}
 use Rattle.promise.specs.Filled.{recordsIn}
@@ -12,7 +12,7 @@ use Rattle.requests.specs.declared.Reply.the-variants as reply-is
 
 -- ---- requests
 
--- the call that a request is: read and write have all of the byte buffer, list all of the records
+-- the call that a request is: read, write and the calls with a map have all of the byte buffer, list all of the records
 abbrev pub requested : Request → List ℕ → List ℕ → machine.Lent → machine.Call
 requested (request-is.Start s n f p) buffer records = machine.start (machine.sizes s n f p)
 requested (request-is.Page p i b) buffer records = machine.page p i b
@@ -21,6 +21,8 @@ requested (request-is.Translate i x) buffer records = machine.translate i x
 requested (request-is.Read i x) buffer records = machine.read i x (length buffer)
 requested (request-is.Write i x) buffer records = machine.write i x buffer
 requested (request-is.List i) buffer records = machine.list i (length records / 3)
+requested request-is.WriteMap buffer records = machine.writeMap (length buffer)
+requested request-is.ReadMap buffer records = machine.readMap buffer
 
 -- ---- replies
 
@@ -36,12 +38,13 @@ replied (reply-is.Frames n) buffer records = machine.frames n
 replied (reply-is.At p) buffer records = machine.at p
 replied reply-is.Bytes buffer records = machine.bytes buffer
 replied (reply-is.Regions n) buffer records = machine.regions (recordsIn n records)
+replied (reply-is.Map n) buffer records = machine.mapFile (take n buffer)
 replied (reply-is.Refused k) buffer records = machine.refused k
 replied (reply-is.RefusedAfter k w) buffer records = machine.refusedAfter k w
 
 -- ---- the caller's buffers
 
--- an accepted read fills the byte buffer, every other answer leaves it
+-- an accepted read fills the byte buffer and a map its front, every other answer leaves it
 abbrev pub bytesInto : machine.Answer → List ℕ → List ℕ
 bytesInto machine.done buffer = buffer
 bytesInto (machine.old f) buffer = buffer
@@ -53,6 +56,7 @@ bytesInto (machine.frames n) buffer = buffer
 bytesInto (machine.at p) buffer = buffer
 bytesInto (machine.bytes vs) buffer = vs
 bytesInto (machine.regions rs) buffer = buffer
+bytesInto (machine.mapFile vs) buffer = vs ++ drop (length vs) buffer
 bytesInto (machine.refused k) buffer = buffer
 bytesInto (machine.refusedAfter k w) buffer = buffer
 
@@ -73,5 +77,6 @@ recordsInto (machine.frames n) records = records
 recordsInto (machine.at p) records = records
 recordsInto (machine.bytes vs) records = records
 recordsInto (machine.regions rs) records = regionNumbers rs ++ drop (3 * length rs) records
+recordsInto (machine.mapFile vs) records = records
 recordsInto (machine.refused k) records = records
 recordsInto (machine.refusedAfter k w) records = records

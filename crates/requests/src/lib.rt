@@ -4,6 +4,7 @@ use machine::Done;
 use machine::Free;
 use machine::Listed;
 use machine::Looked;
+use machine::MapWritten;
 use machine::PageCall;
 use machine::Released;
 use machine::Touched;
@@ -11,14 +12,14 @@ use machine::Translated;
 ghost use mathlib.Core.List.{List, [], _∷_};
 ghost use mathlib.Core.Path.{_≡_};
 ghost use Prim.Native.Nat.{ℕ};
-ghost use lib.ListN.{length};
-ghost use Rattle.machine.specs.Answers.{doneSays, touchedSays, lookedSays, releasedSays, freeSays, translatedSays, copiedSays, listedSays};
+ghost use lib.ListN.{length, take};
+ghost use Rattle.machine.specs.Answers.{doneSays, touchedSays, lookedSays, releasedSays, freeSays, translatedSays, copiedSays, listedSays, mapWrittenSays};
 ghost use Rattle.machine.specs.declared.Region.{Region};
-ghost use Rattle.promise.specs.Filled.{recordsIn, recordsFilled};
+ghost use Rattle.promise.specs.Filled.{recordsIn, recordsFilled, bytesFilled};
 ghost use Rattle.requests.specs.Requests.{replied};
 ghost use Rattle.requests.specs.Codes.{encoded, numbersOf};
 
-// A call with its numbers. Read and write have all of the byte buffer, list all of the records.
+// A call with its numbers. Read, write and the two calls with a map have all of the byte buffer, list all of the records.
 pub enum Request {
     Start(u32, u32, u32, u32),
     Page(PageCall, u32, u32),
@@ -27,9 +28,11 @@ pub enum Request {
     Read(u32, usize),
     Write(u32, usize),
     List(u32),
+    WriteMap,
+    ReadMap,
 }
 
-// What a call answered. The bytes of a read are the byte buffer, the regions stand at the front of the records.
+// What a call answered. The bytes of a read are the byte buffer, a map stands at its front, the regions at the front of the records.
 pub enum Reply {
     Done,
     Old(u32),
@@ -41,6 +44,7 @@ pub enum Reply {
     At(usize),
     Bytes,
     Regions(u32),
+    Map(u32),
     Refused(u32),
     RefusedAfter(u32, u32),
 }
@@ -129,12 +133,33 @@ pub fn of_listed(a: Listed) -> Reply
     }
 }
 
+pub fn of_written(a: MapWritten) -> Reply
+    ensures { λ r. ⌜ ((buffer records : List ℕ) → replied r buffer records ≡ mapWrittenSays a (take (bytesFilled a) buffer)) ⌝ }
+{
+    match a {
+        MapWritten::Bytes(n) => Reply::Map(n),
+        MapWritten::Refused(k) => Reply::Refused(k),
+    }
+}
+
 // ---- a reply as numbers
 
 fn numbers(kind: u32, value: u64, words: u32) -> Answer
     ensures { λ r. ⌜ numbersOf r ≡ kind ∷ value ∷ words ∷ [] ⌝ }
 {
     Answer { kind, words, value }
+}
+
+// How many of the first k bytes there are in a buffer of n bytes.
+fn there(k: u32, n: usize) -> u64
+    ensures { λ r. ⌜ ((buffer : List ℕ) → length buffer ≡ n → length (take k buffer) ≡ r) ⌝ }
+{
+    let all = n as u64;
+    let some = k as u64;
+    if all < some {
+        return all;
+    }
+    some
 }
 
 // A reply with a byte buffer of n bytes.
@@ -152,6 +177,7 @@ pub fn encode(reply: Reply, n: usize) -> Answer
         Reply::At(p) => numbers(23, p as u64, 0),
         Reply::Bytes => numbers(24, n as u64, 0),
         Reply::Regions(n) => numbers(25, n as u64, 0),
+        Reply::Map(k) => numbers(26, there(k, n), 0),
         Reply::Refused(k) => numbers(k, 0, 0),
         Reply::RefusedAfter(k, w) => numbers(k, 0, w),
     }
@@ -206,4 +232,11 @@ pub fn encode_listed(a: Listed) -> Answer
     ensures { λ r. ⌜ ((records : List Region) → length records ≡ recordsFilled a → numbersOf r ≡ encoded (listedSays a records)) ⌝ }
 {
     encode(of_listed(a), 0)
+}
+
+// A map into a buffer of n bytes.
+pub fn encode_written(a: MapWritten, n: usize) -> Answer
+    ensures { λ r. ⌜ ((buffer : List ℕ) → length buffer ≡ n → numbersOf r ≡ encoded (mapWrittenSays a (take (bytesFilled a) buffer))) ⌝ }
+{
+    encode(of_written(a), n)
 }

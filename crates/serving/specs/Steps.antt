@@ -2,22 +2,24 @@
 use mathlib.Core.Path.{_≡_, refl, sym, ap, _∙_, subst}
 use mathlib.Core.Bool.{Bool, true, false}
 use mathlib.Core.List.{List, _++_, append-nil}
+use mathlib.Core.Option.{Option, some}
 use mathlib.Core.Logic.{_⊎_, inl, inr}
 use Prim.Native.Nat.{ℕ, zero, suc}
 use native.Mathlib.Omega.{arith}
 use lib.ListN.{length, drop}
 use lib.Seq.{take-length, drop-length}
-use Rattle.machine.specs.Machine.{Sizes, sizes, sizesOk, State, Lent, Call, start, uses, asked, accepted, Answer, refusal, answer, after, Out, begun}
-use Rattle.machine.specs.Machine.{unstarted}
+use Rattle.machine.specs.Machine.{Sizes, sizes, sizesOk, State, Lent, Call, start, readMap, uses, facts, asked, Answer, refusal, answer, after, Out}
+use Rattle.machine.specs.Machine.{unstarted, withRam}
+use Rattle.machine.specs.Laws.Calls.{begins-so, map-described}
 use Rattle.memory.specs.Memory.{Memory, memory, sizesOf, lengths}
 use Rattle.promise.specs.Holds.{Holds}
-use Rattle.promise.specs.Did.{Did, Exactly, still}
+use Rattle.promise.specs.Did.{BeginsBy, Did, Exactly, still}
 use Rattle.laws.specs.Refusals.{passed-step, refused-step, refusal-still}
 use Rattle.demands.specs.History.{front, rejoined, Lends, Carries, FrontStep, lent-front}
 use Rattle.demands.specs.Laws.Step.{step-follows}
 use Rattle.requests.specs.Requests.{requested}
 use Rattle.requests.specs.declared.Request.{Request}
-use Rattle.requests.specs.declared.Request.the-variants.{Start, Page, Free, Translate, Read, Write, List as Listing}
+use Rattle.requests.specs.declared.Request.the-variants.{Start, Page, Free, Translate, Read, Write, List as Listing, WriteMap, ReadMap}
 
 -- ---- a call lent all of the memory is a step of a sequence
 
@@ -47,6 +49,8 @@ carries-own (Translate i x) bytes records l = refl
 carries-own (Read i x) bytes records l = refl
 carries-own (Write i x) bytes records l = refl
 carries-own (Listing i) bytes records l = refl
+carries-own WriteMap bytes records l = refl
+carries-own ReadMap bytes records l = refl
 
 pub whole-step : (q : Request) (bytes records : List ℕ) (k : Memory) (a : Answer) (k₁ : Memory) → Did (requested q bytes records) k a k₁
     → FrontStep k (record { call = requested q bytes records; lent = lengths k; answer = a }) k₁
@@ -105,43 +109,45 @@ module _ (m : State) (k : Memory) (a : Answer) (k₁ : Memory) (u : Unstarted m 
   same-none : m .sizes .spaces ≡ 0
   same-none = ap (λ (x : State). x .sizes .spaces) (u .state-is)
 
-  -- before a start every other call is refused with 1
+  -- before a start every call that begins nothing is refused with 1
   refused-first : (c : Lent → Call) → ((z : Sizes) → sizesOk z ≡ false → asked z (c (lengths k)) ≡ 1) → Did c k a k₁ → FollowsMachine m (c (lengths k)) a k₁
   refused-first c one d = refused-alike c 0 (one _ (no-sizes _ (u .none))) (one _ (no-sizes _ same-none)) d
 
-  -- a start begins with the RAM as it stands
-  first-start : (z : Sizes) → asked (sizesOf (k .head)) (start z (lengths k)) ≡ 0 → asked (m .sizes) (start z (lengths k)) ≡ 0
-      → Did (start z) k a k₁
-      → FollowsMachine m (start z (lengths k)) a k₁
-  unfolding accepted
-  first-start z e e′ d =
-      let o = passed-step m (start z (lengths k)) e′ in
-      let b = d .begins e in
+  -- a beginning has the RAM as it stands
+  first-begun : (c : Lent → Call) (s : State) → facts (c (lengths k)) .begins ≡ some s → asked (sizesOf (k .head)) (c (lengths k)) ≡ 0
+      → asked (m .sizes) (c (lengths k)) ≡ 0 → Did c k a k₁ → FollowsMachine m (c (lengths k)) a k₁
+  first-begun c s is e e′ d =
+      let o = passed-step m (c (lengths k)) e′ ∙ begins-so m s (c (lengths k)) is in
+      let b = subst (λ (x : Option State). BeginsBy x (asked (sizesOf (k .head)) (c (lengths k))) k a k₁) is (d .begins) e in
       record {
         answer-is = b .0 ∙ sym (ap (λ (x : Out). x .answer) o);
         stands =
             subst (λ (x : Out). Stands (x .after) k₁) (sym o)
-            (inl (subst (λ (ram : List ℕ). Holds (begun z ram) k₁) (sym (ap (λ (x : State). x .ram) (u .state-is))) (b .1)));
+            (inl (subst (λ (ram : List ℕ). Holds (withRam s ram) k₁) (sym (ap (λ (x : State). x .ram) (u .state-is))) (b .1)));
       }
 
-  start-served : (z : Sizes) → Did (start z) k a k₁ → FollowsMachine m (start z (lengths k)) a k₁
-  unfolding asked
-  start-served z d = go (asked (sizesOf (k .head)) (start z (lengths k))) refl
+  -- whatever the sizes that stand, a call that begins is asked the same
+  begun-served : (c : Lent → Call) → (asked (sizesOf (k .head)) (c (lengths k)) ≡ 0 → (s : State) × (facts (c (lengths k)) .begins ≡ some s))
+      → asked (sizesOf (k .head)) (c (lengths k)) ≡ asked (m .sizes) (c (lengths k)) → Did c k a k₁ → FollowsMachine m (c (lengths k)) a k₁
+  begun-served c begins alike d = go (asked (sizesOf (k .head)) (c (lengths k))) refl
     where
-      go : (j : ℕ) → asked (sizesOf (k .head)) (start z (lengths k)) ≡ j → FollowsMachine m (start z (lengths k)) a k₁
-      go zero e = first-start z e e d
-      go (suc j) e = refused-alike (start z) j e e d
+      go : (j : ℕ) → asked (sizesOf (k .head)) (c (lengths k)) ≡ j → FollowsMachine m (c (lengths k)) a k₁
+      go zero e = let (s, is) = begins e in first-begun c s is e (sym alike ∙ e) d
+      go (suc j) e = refused-alike c j e (sym alike ∙ e) d
 
   unstarted-served : (q : Request) (bytes records : List ℕ) → Did (requested q bytes records) k a k₁
       → FollowsMachine m (requested q bytes records (lengths k)) a k₁
   unfolding asked
-  unstarted-served (Start s n f p) bytes records d = start-served (sizes s n f p) d
+  unstarted-served (Start s n f p) bytes records d = begun-served (start (sizes s n f p)) (λ e. (_, refl)) refl d
   unstarted-served (Page p i b) bytes records d = refused-first _ (λ z e. rw e) d
   unstarted-served Free bytes records d = refused-first _ (λ z e. rw e) d
   unstarted-served (Translate i x) bytes records d = refused-first _ (λ z e. rw e) d
   unstarted-served (Read i x) bytes records d = refused-first _ (λ z e. rw e) d
   unstarted-served (Write i x) bytes records d = refused-first _ (λ z e. rw e) d
   unstarted-served (Listing i) bytes records d = refused-first _ (λ z e. rw e) d
+  unstarted-served WriteMap bytes records d = refused-first _ (λ z e. rw e) d
+  unstarted-served ReadMap bytes records d =
+      begun-served (readMap bytes) (λ e. (_, map-described (sizesOf (k .head)) bytes (lengths k) e)) refl d
 
 pub serve-follows : (m : State) (k : Memory) (q : Request) (bytes records : List ℕ) (a : Answer) (k₁ : Memory) → Stands m k
     → Did (requested q bytes records) k a k₁ → FollowsMachine m (requested q bytes records (lengths k)) a k₁

@@ -3,9 +3,11 @@ use memory::Head;
 use pager::free;
 use pager::list;
 use pager::read;
+use pager::read_map;
 use pager::start;
 use pager::translate;
 use pager::write;
+use pager::write_map;
 use pages::Served;
 use pages::serve_page;
 use requests::Request;
@@ -121,6 +123,32 @@ pub fn serve(
             Served {
                 head,
                 reply: requests::of_listed(a),
+            }
+        }
+        Request::WriteMap => {
+            let a = write_map(head, index, count, table, stack, link, buffer);
+            Served {
+                head,
+                reply: requests::of_written(a),
+            }
+        }
+        Request::ReadMap => {
+            let out = read_map(
+                head,
+                buffer,
+                index,
+                count,
+                table,
+                helper,
+                stack,
+                cache,
+                link,
+            );
+            let head = out.head;
+            let a = out.answer;
+            Served {
+                head,
+                reply: requests::of_done(a),
             }
         }
     }

@@ -2,6 +2,7 @@
 use ahead::fill;
 use ahead::is_beyond;
 use memory::Head;
+pub use parsing::LONGEST_MAP;
 use parsing::Line;
 use parsing::parse;
 use printing::say;
@@ -64,7 +65,8 @@ fn answer_call(
     Answered { head: next, end }
 }
 
-// Answers a line, after the first `at` bytes of `out`. With 256 bytes in the buffer and 3,072 numbers in the records every line has its answer.
+// Answers a line, after the first `at` bytes of `out`. With LONGEST_MAP bytes in the buffer and 3,072 numbers in the records every line has its
+// answer.
 pub fn answer_line(
     head: Head,
     line: &[u8],

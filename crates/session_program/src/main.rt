@@ -7,6 +7,7 @@ use answering::answer_lines;
 use input::keep_rest;
 use input::read_more;
 use memory::no_start;
+use session::LONGEST_MAP;
 ghost use Prim.Native.Nat.{_<_};
 
 // The bytes of a read and of the answers to it, and the memory that the largest start needs.
@@ -14,7 +15,7 @@ const INPUT: usize = 65_536;
 
 const OUT: usize = 131_072;
 
-const BYTES: usize = 256;
+const BYTES: usize = LONGEST_MAP;
 
 const RECORDS: usize = 3_072;
 

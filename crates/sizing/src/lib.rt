@@ -8,11 +8,13 @@ use machine::MadeSize;
 use machine::PageSize;
 use memory::Head;
 ghost use mathlib.Core.List.{[], _∷_};
+ghost use mathlib.Core.Bool.{true};
 ghost use mathlib.Core.Path.{_≡_};
-ghost use Rattle.machine.specs.Machine.{sizes};
-ghost use Rattle.sizing.specs.Needed.{numbersOf, neededFor};
+ghost use Rattle.machine.specs.Machine.{sizes, sizesOk};
+ghost use Rattle.memory.specs.Memory.{sizesOf};
+ghost use Rattle.sizing.specs.Needed.{numbersOf, neededFor, mapRoom};
 
-// Words of the index, entries of the five tables with one a place, of the frame link, bytes of RAM;
+// Words of the index, entries of the five tables with one a place, of the frame link, bytes of RAM, and of a map file at most;
 // or refusal 1, for sizes outside their limits, and 0.
 #[repr(C)]
 pub struct Needs {
@@ -21,10 +23,11 @@ pub struct Needs {
     pub places: usize,
     pub link: usize,
     pub ram: usize,
+    pub map: usize,
 }
 
 fn no_sizes() -> Needs
-    ensures { λ r. ⌜ numbersOf r ≡ 1 ∷ 0 ∷ 0 ∷ 0 ∷ 0 ∷ [] ⌝ }
+    ensures { λ r. ⌜ numbersOf r ≡ 1 ∷ 0 ∷ 0 ∷ 0 ∷ 0 ∷ 0 ∷ [] ⌝ }
 {
     Needs {
         refusal: 1,
@@ -32,7 +35,17 @@ fn no_sizes() -> Needs
         places: 0,
         link: 0,
         ram: 0,
+        map: 0,
     }
+}
+
+// The bytes of a map file at most: contents, each place a region, each frame held or in the pool.
+fn map_bytes(h: Head) -> usize
+    requires { ⌜ sizesOk (sizesOf h) ≡ true ⌝ }
+    ensures { λ r. ⌜ r ≡ mapRoom (sizesOf h) ⌝ }
+{
+    let contents = 3 * wide(h.spaces) + 7;
+    4 * (contents + 3 * all_places(h) + 2 * wide(h.frames))
 }
 
 // What a start of these sizes and the calls after it must be lent.
@@ -61,5 +74,6 @@ pub fn needed(spaces: u32, pages: u32, frames: u32, page: u32) -> Needs
         places,
         link: wide(frames),
         ram: ram_bytes(h),
+        map: map_bytes(h),
     }
 }

@@ -5,8 +5,6 @@ use mathlib.Core.List.{List, [], _++_}
 use Prim.Native.Nat.{ℕ, _^_, _≤_}
 use native.Mathlib.Nat.{not-suc-le-zero, zero-add}
 use native.Mathlib.Omega.{arith}
-use borrow.Author.Tests.{lt-ltb}
-use lib.Dec.{ltb}
 use lib.ListN.{length, drop as dropped, replicate, length-append, length-drop, length-replicate, List·getD-append}
 use Rattle.sequence.specs.Lists.{tabulate, getD-same}
 use Rattle.places.specs.Places.{size}
@@ -20,20 +18,14 @@ use Rattle.machine.specs.Answers.{size as size-is, no-size, pageSizeFor}
 use Rattle.machine.specs.Laws.Sizes.{fit}
 use Rattle.machine.specs.Laws.Kept.{sound-begun}
 use Rattle.memory.specs.Memory.{Memory, memory, sizesOf, lengths}
+use Rattle.memory.specs.declared.Head.{Head}
 use Rattle.promise.specs.Holds.{Holds}
 use Rattle.promise.specs.Did.{Did}
 use Rattle.laws.specs.Models.{checkOf, markLengths}
 use Rattle.starting.specs.Models.{changeSays, startHead, Starts, StartIf, StartDone}
+use Rattle.starting.specs.Steps.{BeginsAs}
 use Rattle.laws.specs.Refusals.{passed-step, early-did, checked-did, start-admitted, check-size-passes}
-use Rattle.laws.specs.Checks.{same-lent}
-
--- sizes that pass have a space 0
-space-zero : (z : Sizes) (o : Bool) → firstOf (sizesOk z && o) (ltb 0 (z .spaces)) true ≡ firstOf (sizesOk z && o) true true
-space-zero z o = go (sizesOk z) refl
-  where
-    go : (b : Bool) → sizesOk z ≡ b → firstOf (b && o) (ltb 0 (z .spaces)) true ≡ firstOf (b && o) true true
-    go true e = rw (lt-ltb 0 (z .spaces) (fit z e .some-spaces))
-    go false e = refl
+use Rattle.laws.specs.Checks.{space-zero, same-lent}
 
 -- whatever the head before it
 pub start-check : (k : Memory) (s n f shift : ℕ)
@@ -64,7 +56,7 @@ module _ (s n f shift : ℕ) (k : Memory) where
   none-held : (a : ℕ) → region (begun given (k .ram)) a ≡ []
   none-held a = getD-same (places given) a []
 
-  begun-holds : sizesOk given ≡ true → Holds (begun given (k .ram)) prepared
+  pub begun-holds : sizesOk given ≡ true → Holds (begun given (k .ram)) prepared
   begun-holds ok =
       let t = places given in
       record {
@@ -143,3 +135,36 @@ start-did s n f p k a k′ d = go (isPageSize p) refl d
     go true e (shift, is, d) =
         subst (λ p. Did (start (sizes s n f p)) k a k′) is
         (checked-did (start (sizes s n f (2 ^ shift))) k _ (start-check k s n f shift) _ a k′ d (λ pass r. start-then s n f shift k pass a k′ r))
+
+-- ---- what begins, for the calls that go on from there
+
+-- head, index and resident counts as a start of the sizes of h leaves them
+pub record Begun (h : Head) (ws count : List ℕ) (h′ : Head) (ws′ count′ : List ℕ) : Type 0 where
+  pub head-is : h′ ≡ h
+  pub index-is : ws′ ≡ indexOf (places (sizesOf h)) (λ _. false) ++ dropped (size (places (sizesOf h))) ws
+  pub count-is : count′ ≡ replicate (places (sizesOf h)) 0 ++ dropped (places (sizesOf h)) count
+
+pub begun-as : (h : Head) → sizesOk (sizesOf h) ≡ true → (ws count : List ℕ) → size (places (sizesOf h)) ≤ length ws
+    → (h′ : Head) (a : Answer) (ws′ count′ : List ℕ) → BeginsAs h ws count h′ a ws′ count′ → Begun h ws count h′ ws′ count′
+begun-as h ok ws count long h′ a ws′ count′ d =
+    let s = d h [] [] [] [] [] [] in
+    record {
+      head-is = ap (λ (k : Memory). k .head) (s .after-is);
+      index-is = ap (λ (k : Memory). k .index) (s .after-is) ∙ s .prepared .cleared (check-size-passes (sizesOf h) ok (length ws) long);
+      count-is = ap (λ (k : Memory). k .count) (s .after-is);
+    }
+
+-- no frame used yet
+pub record Unused (h : Head) : Type 0 where
+  pub first : h .first ≡ 0
+  pub many : h .many ≡ 0
+  pub fresh : h .fresh ≡ 0
+
+-- memory so begun stands for the state that a start of these sizes begins
+pub begun-stands : (h : Head) → Unused h → sizesOk (sizesOf h) ≡ true → (ws count : List ℕ) (h′ : Head) (ws′ count′ : List ℕ) → Begun h ws count h′ ws′ count′
+    → (table helper stack cache link ram : List ℕ) → Holds (begun (sizesOf h) ram) (memory h′ ws′ count′ table helper stack cache link ram)
+begun-stands h u ok ws count h′ ws′ count′ b table helper stack cache link ram =
+    let new : h ≡ startHead (h .spaces) (h .pages) (h .frames) (h .page .shift) =
+    λ j. record { spaces = h .spaces; pages = h .pages; frames = h .frames; page = h .page; first = u .first j; many = u .many j; fresh = u .fresh j } in
+    rw (b .head-is, b .index-is, b .count-is, new)
+    (begun-holds (h .spaces) (h .pages) (h .frames) (h .page .shift) (memory h ws count table helper stack cache link ram) ok)

@@ -1,4 +1,4 @@
-// Starting: the sizes set, the index and the resident counts prepared. Marking shares the lengths that it tests.
+// Starting: the sizes set, the index and the resident counts prepared. Marking shares the lengths that it tests, the reading of a map what begins.
 use checks::all_places;
 use checks::check;
 use index::Change;
@@ -49,7 +49,7 @@ fn changed(c: Change) -> Done
 }
 
 // A refused start gives the head back as it was.
-fn not_started(head: Head, no: u32) -> StartOut
+pub fn not_started(head: Head, no: u32) -> StartOut
     ensures { λ r. ⌜ (r .head ≡ head) × (doneSays (r .answer) ≡ machine.refused no) ⌝ }
 {
     StartOut {
@@ -71,7 +71,7 @@ fn clear_counts(count: &mut [u32], t: usize)
 }
 
 // Prepares the index and the resident counts, and nothing else.
-fn begin(next: Head, index: &mut [u64], count: &mut [u32]) -> StartOut
+pub fn begin(next: Head, index: &mut [u64], count: &mut [u32]) -> StartOut
     requires { ⌜ Beginnable next (now count) ⌝ }
     ensures { λ r. ⌜ BeginsAs next (now (index .entry)) (now (count .entry)) (r .head) (doneSays (r .answer)) (now (index .exit)) (now (count .exit)) ⌝ }
 {

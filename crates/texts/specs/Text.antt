@@ -57,6 +57,10 @@ bytesWord = 98 ∷ 121 ∷ 116 ∷ 101 ∷ 115 ∷ []
 abbrev pub regionsWord : List ℕ
 regionsWord = 114 ∷ 101 ∷ 103 ∷ 105 ∷ 111 ∷ 110 ∷ 115 ∷ 32 ∷ []
 
+-- `map `
+abbrev pub mapWord : List ℕ
+mapWord = 109 ∷ 97 ∷ 112 ∷ 32 ∷ []
+
 -- `no `
 abbrev pub noWord : List ℕ
 noWord = 110 ∷ 111 ∷ 32 ∷ []

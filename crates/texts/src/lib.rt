@@ -5,13 +5,13 @@ use digits::put_numbers;
 use digits::put_pair;
 ghost use mathlib.Core.Bool.{cond};
 ghost use mathlib.Core.List.{[], _++_};
-ghost use Prim.Native.Nat.{_+_, _≤_};
+ghost use Prim.Native.Nat.{_+_, _*_, _≤_};
 ghost use lib.Dec.{leb};
-ghost use lib.ListN.{length};
-ghost use Rattle.digits.specs.Text.{decimal, numbersText, blank};
+ghost use lib.ListN.{length, take};
+ghost use Rattle.digits.specs.Text.{decimal, hexText, numbersText, blank};
 ghost use Rattle.digits.specs.Writing.{Wrote};
 ghost use Rattle.texts.specs.Text.{okWord, badLine, frameWord, oldWord, newWord, residentWord, noWords, absentWord, pagesWord, freeWord, atWord};
-ghost use Rattle.texts.specs.Text.{bytesWord, bytesText, regionsWord, noWord};
+ghost use Rattle.texts.specs.Text.{bytesWord, bytesText, regionsWord, mapWord, noWord};
 
 // A call that has nothing to tell.
 pub fn put_ok(out: &mut [u8], at: usize) -> usize
@@ -82,7 +82,7 @@ pub fn put_at(out: &mut [u8], at: usize, p: usize) -> usize
 
 // What a read gave.
 pub fn put_bytes(out: &mut [u8], at: usize, bytes: &[u8]) -> usize
-    requires { ⌜ (at + 1024 ≤ length (now out)) × (length (now bytes) ≤ 256) ⌝ }
+    requires { ⌜ at + 64 + 2 * length (now bytes) ≤ length (now out) ⌝ }
     ensures { λ r. ⌜ Wrote at (now (out .entry)) (bytesWord ++ bytesText (now (bytes .entry))) r (now (out .exit)) ⌝ }
 {
     let next = put(out, at, b"bytes");
@@ -100,6 +100,19 @@ pub fn put_regions(out: &mut [u8], at: usize, n: u32, numbers: &[u32]) -> usize
 {
     let next = put_pair(out, at, b"regions ", n as u64);
     put_numbers(out, next, numbers)
+}
+
+// A map, the first n of these bytes.
+pub fn put_map(out: &mut [u8], at: usize, bytes: &[u8], n: u32) -> usize
+    requires { ⌜ at + 64 + 2 * length (now bytes) ≤ length (now out) ⌝ }
+    ensures { λ r. ⌜ Wrote at (now (out .entry)) (mapWord ++ hexText (take n (now (bytes .entry)))) r (now (out .exit)) ⌝ }
+{
+    let next = put(out, at, b"map ");
+    let k = n as usize;
+    if bytes.len() < k {
+        return put_hex(out, next, bytes);
+    }
+    put_hex(out, next, &bytes[..k])
 }
 
 // A refusal.

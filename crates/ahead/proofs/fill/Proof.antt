@@ -25,9 +25,16 @@ returns-6 c = rw (c .enum-told6 .given .1) refl
 returns-7 : tie.Need-returns-7
 returns-7 c = rw (c .enum-told7 .given .1) refl
 
+returns-8 : tie.Need-returns-8
+returns-8 c = rw (c .enum-told8 .given .1) refl
+
+returns-9 : tie.Need-returns-9
+returns-9 c = rw (c .enum-told9 .given .1) refl
+
 pub fill-spec : {M : Type 1} → statement M
 fill-spec =
     tie.close
     (tie.spec
     (λ c. search needs) (λ c κs. search needs) (λ c. search needs) (λ c. search needs) (λ c. search needs) (λ c. search needs) (λ c. search needs)
-    (λ c. search needs) (λ c. search needs) returns returns-2 returns-3 returns-4 returns-5 returns-6 returns-7)
+    (λ c. search needs) (λ c. search needs) (λ c. search needs) (λ c. search needs) returns returns-2 returns-3 returns-4 returns-5 returns-6 returns-7
+    returns-8 returns-9)

@@ -36,16 +36,26 @@ returns-7 c = rw (c .before .match2 .keys6) (c .list-code .ensures)
 
 returns-8 : tie.Need-returns-8
 unfolding decoded
-returns-8 c =
+returns-8 c = rw (c .before .match2 .keys7) (c .map-code .ensures)
+
+returns-9 : tie.Need-returns-9
+unfolding decoded
+returns-9 c = rw (c .before .match2 .keys8) (c .map-code2 .ensures)
+
+returns-10 : tie.Need-returns-10
+unfolding decoded
+returns-10 c =
     let other = c .match2 .rest in
     rw (
       sym (c .before .before .before .page-kind .ensures) ∙ c .before .enum-told .given .1,
-      ne-eqb _ 1 (other .0 .0 .0 .0 .0 .1),
-      ne-eqb _ 7 (other .0 .0 .0 .0 .1),
-      ne-eqb _ 8 (other .0 .0 .0 .1),
-      ne-eqb _ 9 (other .0 .0 .1),
-      ne-eqb _ 10 (other .0 .1),
-      ne-eqb _ 11 (other .1),
+      ne-eqb _ 1 (other .0 .0 .0 .0 .0 .0 .0 .1),
+      ne-eqb _ 7 (other .0 .0 .0 .0 .0 .0 .1),
+      ne-eqb _ 8 (other .0 .0 .0 .0 .0 .1),
+      ne-eqb _ 9 (other .0 .0 .0 .0 .1),
+      ne-eqb _ 10 (other .0 .0 .0 .1),
+      ne-eqb _ 11 (other .0 .0 .1),
+      ne-eqb _ 12 (other .0 .1),
+      ne-eqb _ 13 (other .1),
     )
 
 pub decode-spec : {M : Type 1} → statement M
@@ -53,5 +63,5 @@ decode-spec =
     tie.close
     (tie.spec
     (λ c κs. search needs) (λ c. search needs) (λ c κs. search needs) returns (λ c. search needs) (λ c κs. search needs) (λ c κs. search needs)
-    (λ c κs. search needs) (λ c κs. search needs) (λ c κs. search needs) (λ c κs. search needs) returns-2 returns-3 returns-4 returns-5 returns-6
-    returns-7 returns-8)
+    (λ c κs. search needs) (λ c κs. search needs) (λ c κs. search needs) (λ c κs. search needs) (λ c κs. search needs) (λ c κs. search needs) returns-2
+    returns-3 returns-4 returns-5 returns-6 returns-7 returns-8 returns-9 returns-10)

@@ -7,8 +7,8 @@ use Prim.Native.Nat.{ℕ, zero, suc, _*_, _≤_}
 use native.Mathlib.Omega.{arith}
 use lib.ListN.{length, take-append-drop}
 use Rattle.machine.specs.declared.PageCall.the-variants.{Mark, Drop, Touch, Look, Release}
-use Rattle.machine.specs.Machine.{Sizes, State, Lent, uses, facts, sizesBy, Call, start, page, free, translate, read, write, list, asked, Answer}
-use Rattle.machine.specs.Machine.{done, refusal, Out, withRam}
+use Rattle.machine.specs.Machine.{Sizes, State, Lent, uses, facts, sizesBy, Call, start, page, free, translate, read, write, list, writeMap, readMap, asked}
+use Rattle.machine.specs.Machine.{Answer, done, refusal, Out, withRam}
 use Rattle.machine.specs.Laws.Calls.{begins-so}
 use Rattle.memory.specs.Memory.{Memory, sizesOf, lengths}
 use Rattle.promise.specs.Holds.{Holds}
@@ -113,6 +113,8 @@ module _ (k : Memory) (n : Lent) (a : Answer) (part : Memory) where
     lent-ram (read i x count l) e r h = same-read m (H .sound) (n .ram) r i x count l
     lent-ram (write i x vs l) e r h = same-write m (H .sound) (n .ram) r (omega (arith, ap length (H .ram-is))) i x vs l
     lent-ram (list i room l) e r h = absurd (false≢true e)
+    lent-ram (writeMap room l) e r h = absurd (false≢true e)
+    lent-ram (readMap file l) e r h = absurd (false≢true e)
 
     same-cut : (c : Call) → Long (uses c) (m .sizes) n → Lends (uses c .ram) (n .ram) (length (k .ram)) → SameCut (n .ram) m c
     same-cut c long h = go (uses c .ram) refl h

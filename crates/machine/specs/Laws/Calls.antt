@@ -1,6 +1,6 @@
 -- What each call keeps, one entry a call; from it what any call keeps, and any history.
 use mathlib.Core.Path.{_≡_, refl, sym, ap, ap₂, _∙_, subst}
-use mathlib.Core.Bool.{Bool, true, false, not, _&&_, _||_, false≢true}
+use mathlib.Core.Bool.{Bool, true, false, cond, not, _&&_, _||_, false≢true}
 use mathlib.Core.Option.{Option, none, some, Option·none-ne-some}
 use mathlib.Core.List.{List, [], _∷_}
 use Prim.Native.Nat.{ℕ, zero, suc, _+_, _*_, _≤_}
@@ -11,34 +11,41 @@ use lib.ListN.{length}
 use Rattle.machine.specs.declared.PageCall.{PageCall}
 use Rattle.machine.specs.declared.PageCall.the-variants.{Mark, Drop, Touch, Look, Release}
 use Rattle.machine.specs.Machine.{Sizes, placeOf, sizesOk, spaceBytes, spanPages, pageOfAddress, State, Lent, isStart, startOf, wordsAt, pageOf, enough}
-use Rattle.machine.specs.Machine.{Call, start, page, free, translate, read, write, list, uses, facts, pageFacts, tablesAndRam, everyBuffer, lends}
-use Rattle.machine.specs.Machine.{lentOk, refusal, sizesBy, sizesFor, asked, Effect, unchanged, prepared, startPut, pageMapped, regionEmptied, spanStored}
-use Rattle.machine.specs.Machine.{Kind, ended, touched, looked, released, counted, translated, copied, listed, refusalOf, Answer, done, Out, tell}
-use Rattle.machine.specs.Machine.{withRam, markAt, dropAt, spanOutside, spanShort, accepted, unless, step, answer, after, afterAll}
+use Rattle.machine.specs.Machine.{Call, start, page, free, translate, read, write, list, writeMap, readMap, uses, facts, pageFacts, tablesAndRam}
+use Rattle.machine.specs.Machine.{everyBuffer, lends}
+use Rattle.machine.specs.Machine.{lentOk, refusal, sizesBy, sizesFor, sizesAfter, asked, Effect, unchanged, prepared, refilled, startPut, pageMapped}
+use Rattle.machine.specs.Machine.{regionEmptied, spanStored}
+use Rattle.machine.specs.Machine.{Kind, ended, touched, looked, released, counted, translated, copied, listed, mapWritten, refusalOf, Answer, done}
+use Rattle.machine.specs.Machine.{Out, tell}
+use Rattle.machine.specs.Machine.{withRam, markAt, dropAt, spanOutside, spanShort, restoredIf, accepted, unless, step, answer, after, afterAll}
 use Rattle.machine.specs.Claims.{Sound, Address, RamFits, isRefused, shows, orZero, inRun, isBeginning, aimsAt, aims, ends, showsBy, showsFrom}
 use Rattle.machine.specs.Claims.{showsAfter, Spared, MayChangeBy, MayChange}
-use Rattle.machine.specs.Laws.Sizes.{both, passed}
-use Rattle.machine.specs.Laws.Kept.{sound-begun}
+use Rattle.machine.specs.Laws.Sizes.{both, passed, file-passed}
+use Rattle.words.specs.Words.{wordsIn}
+use Rattle.machine.specs.Map.{stateIn}
+use Rattle.machine.specs.MapRules.{contentsOk, fileOk, described}
+use Rattle.machine.specs.MapTheorems.{described-sound}
+use Rattle.machine.specs.Laws.Kept.{sound-begun, sound-stored}
 use Rattle.machine.specs.Laws.Steps.{sound-marked-or-not, sound-dropped-or-not, sound-touched, sound-released-or-not, sound-written, touch-sizes}
 use Rattle.machine.specs.Laws.Steps.{write-sizes, page-place}
 use Rattle.machine.specs.Laws.Changes.{KeptIfRefused, mark-kept, drop-kept, touch-kept, release-kept, write-kept, mark-start, drop-start, touch-region}
 use Rattle.machine.specs.Laws.Changes.{release-region, write-span, may-stay}
 use Rattle.machine.specs.Laws.Shows.{shows-started, touched-shows, released-shows, written-shows}
 use Rattle.machine.specs.Laws.Unseen.{Alike, same-answer, told-alike, mark-alike, drop-alike, touch-alike, release-alike, read-alike, write-alike}
-use Rattle.machine.specs.Laws.Unseen.{list-alike}
+use Rattle.machine.specs.Laws.Unseen.{list-alike, map-alike}
 
--- the RAM is long enough for the sizes that the call's buffers are to be long enough for
+-- the RAM is long enough for the sizes after the call
 abbrev RamRoom : State → Call → Type 0
-RamRoom m c = let z = sizesFor (m .sizes) c in z .frames * z .page ≤ length (m .ram)
+RamRoom m c = let z = sizesAfter (m .sizes) c in z .frames * z .page ≤ length (m .ram)
 
 pub record Lawful (m : State) (c : Call) : Type 0 where
   pub sound : Sound m → Sound (accepted m c .after)
   pub keeps : KeptIfRefused m (accepted m c)
-  pub sizes : accepted m c .after .sizes ≡ sizesFor (m .sizes) c
+  pub sizes : accepted m c .after .sizes ≡ sizesAfter (m .sizes) c
   pub changes : Sound m → MayChangeBy m (facts c .change) (accepted m c .after)
   -- what each address shows, if the call isn't refused
   pub shown : Sound m → (uses c .ram ≡ true → RamRoom m c)
-      → (i x : ℕ) → Address (sizesFor (m .sizes) c) i x
+      → (i x : ℕ) → Address (sizesAfter (m .sizes) c) i x
       → isRefused (accepted m c .answer) ≡ false → shows (accepted m c .after) i x ≡ showsAfter m i x c
   -- with another RAM
   pub alike : (ram : List ℕ) → Alike (withRam m ram) m (accepted (withRam m ram) c) (accepted m c)
@@ -113,6 +120,28 @@ module _ (m : State) where
         alike = λ ram. release-alike m ram p (isStart m p);
       }
 
+  -- what a file describes is sound, and is begun with the RAM as it stands
+  restored-lawful : (file : List ℕ) (l : Lent) (o : Option State) → described [] file ≡ o → Lawful m (readMap file l)
+  unfolding accepted
+  restored-lawful file l none is =
+      record {
+        sound = λ s. rw is s;
+        keeps = λ n. rw is;
+        sizes = rw is;
+        changes = λ _. rw is;
+        shown = λ s room i x here n. absurd (false≢true (sym n ∙ rw is));
+        alike = λ ram. rw is (told-alike m ram _);
+      }
+  restored-lawful file l (some s) is =
+      record {
+        sound = λ _. rw is (sound-stored s (described-sound [] file s is) (m .ram));
+        keeps = λ n. absurd (false≢true (sym (rw is) ∙ n));
+        sizes = rw is;
+        changes = λ _. rw is;
+        shown = λ _ room i x here n. rw is;
+        alike = λ ram. rw is (record { answers = same-answer; states = refl });
+      }
+
   lawful : (c : Call) → asked (m .sizes) c ≡ 0 → Lawful m c
   unfolding asked accepted
   lawful (start z l) e =
@@ -146,6 +175,8 @@ module _ (m : State) where
         alike = λ ram. write-alike m ram i x vs;
       }
   lawful (list i room l) e = tells (list i room l) _ refl refl refl (λ ram. list-alike m ram i room)
+  lawful (writeMap room l) e = tells (writeMap room l) _ refl refl refl (λ ram. map-alike m ram room)
+  lawful (readMap file l) e = restored-lawful file l (described [] file) refl
 
 -- ---- any call, in any state
 
@@ -158,6 +189,7 @@ is-refusal counted n = refl
 is-refusal translated n = refl
 is-refusal copied n = refl
 is-refusal listed n = refl
+is-refusal mapWritten n = refl
 
 -- a claim about a call holds if it holds where the checks pass and where the state stays
 by-check : (P : Out → Type 0) (m : State) (c : Call) → (asked (m .sizes) c ≡ 0 → P (accepted m c)) → ((a : Answer) → P (tell m a)) → P (step m c)
@@ -171,6 +203,10 @@ by-check P m c passes stays = go (asked (m .sizes) c) refl
 pub step-sound : (m : State) (c : Call) → Sound m → Sound (after m c)
 step-sound m c s = by-check (λ o. Sound (o .after)) m c (λ e. lawful m c e .sound s) (λ a. s)
 
+-- what begins no state keeps the sizes
+pub sizes-kept : (m : State) (c : Call) → facts c .begins ≡ none → after m c .sizes ≡ m .sizes
+sizes-kept m c is = by-check (λ o. o .after .sizes ≡ m .sizes) m c (λ e. lawful m c e .sizes ∙ ap (sizesBy (m .sizes)) is) (λ a. refl)
+
 pub refusal-keeps : (m : State) (c : Call) → isRefused (answer m c) ≡ true → after m c ≡ m
 refusal-keeps m c = by-check (KeptIfRefused m) m c (λ e. lawful m c e .keeps) (λ a _. refl)
 
@@ -183,14 +219,14 @@ RoomFor m c = asked (m .sizes) c ≡ 0 → uses c .ram ≡ true → RamRoom m c
 
 -- the sizes, and what each address shows, after a call that isn't refused
 pub step-shown : (m : State) (c : Call) → Sound m → RoomFor m c → isRefused (answer m c) ≡ false
-    → (after m c .sizes ≡ sizesFor (m .sizes) c)
-    × ((i x : ℕ) → Address (sizesFor (m .sizes) c) i x → shows (after m c) i x ≡ showsAfter m i x c)
+    → (after m c .sizes ≡ sizesAfter (m .sizes) c)
+    × ((i x : ℕ) → Address (sizesAfter (m .sizes) c) i x → shows (after m c) i x ≡ showsAfter m i x c)
 unfolding step
 step-shown m c s room = go (asked (m .sizes) c) refl
   where
     go : (k : ℕ) → asked (m .sizes) c ≡ k → isRefused (unless (refusal c) k m (accepted m c) .answer) ≡ false
-        → (unless (refusal c) k m (accepted m c) .after .sizes ≡ sizesFor (m .sizes) c)
-        × ((i x : ℕ) → Address (sizesFor (m .sizes) c) i x → shows (unless (refusal c) k m (accepted m c) .after) i x ≡ showsAfter m i x c)
+        → (unless (refusal c) k m (accepted m c) .after .sizes ≡ sizesAfter (m .sizes) c)
+        × ((i x : ℕ) → Address (sizesAfter (m .sizes) c) i x → shows (unless (refusal c) k m (accepted m c) .after) i x ≡ showsAfter m i x c)
     go zero e n = let l = lawful m c e in (l .sizes, λ i x here. l .shown s (room e) i x here n)
     go (suc k) e n = absurd (false≢true (sym n ∙ is-refusal (facts c .kind) (suc k)))
 
@@ -202,6 +238,7 @@ zero-not true o v h = rw h
 spared-shows : (m : State) (i x v : ℕ) (e : Effect) → aimsAt m i x e ≡ false → shows m i x ≡ some v → showsBy m i x e ≡ some v
 spared-shows m i x v unchanged a h = h
 spared-shows m i x v (prepared z) a h = h
+spared-shows m i x v (refilled z) a h = h
 spared-shows m i x v (startPut j b) a h = h
 spared-shows m i x v (pageMapped j b) a h = zero-not (eqb (pageOfAddress (m .sizes) i x) (placeOf (m .sizes) j b)) (shows m i x) v h
 spared-shows m i x v (regionEmptied j b) a h = rw a h
@@ -244,17 +281,41 @@ alike m ram c = go (asked (m .sizes) c) refl
 -- what begins a state leaves it, with the RAM as it stood
 pub begins-so : (m s : State) (c : Call) → facts c .begins ≡ some s → accepted m c ≡ record { answer = done; after = withRam s (m .ram) }
 unfolding accepted
-begins-so m s (start z l) e = ap (λ (o : Option State). record { answer = done; after = withRam (stateOr o) (m .ram) }) e
-  where
-    stateOr : Option State → State
-    stateOr none = m
-    stateOr (some n) = n
+begins-so m s (start z l) e = ap (restoredIf m) e
 begins-so m s (page p i b l) e = absurd (Option·none-ne-some s e)
 begins-so m s free e = absurd (Option·none-ne-some s e)
 begins-so m s (translate i x l) e = absurd (Option·none-ne-some s e)
 begins-so m s (read i x n l) e = absurd (Option·none-ne-some s e)
 begins-so m s (write i x vs l) e = absurd (Option·none-ne-some s e)
 begins-so m s (list i room l) e = absurd (Option·none-ne-some s e)
+begins-so m s (writeMap room l) e = absurd (Option·none-ne-some s e)
+begins-so m s (readMap file l) e = ap (restoredIf m) e
+
+-- and, unless it is refused, tells so
+pub begun-done : (m s : State) (c : Call) → facts c .begins ≡ some s → isRefused (answer m c) ≡ false → answer m c ≡ done
+unfolding step
+begun-done m s c is = go (asked (m .sizes) c)
+  where
+    go : (k : ℕ) → isRefused (unless (refusal c) k m (accepted m c) .answer) ≡ false → unless (refusal c) k m (accepted m c) .answer ≡ done
+    go zero n = ap (λ (o : Out). o .answer) (begins-so m s c is)
+    go (suc k) n = absurd (false≢true (sym n ∙ is-refusal (facts c .kind) (suc k)))
+
+-- a map that passed the checks describes a state
+pub map-described : (z : Sizes) (file : List ℕ) (l : Lent) → asked z (readMap file l) ≡ 0 → described [] file ≡ some (stateIn [] (wordsIn file))
+unfolding asked
+map-described z file l e = ap (λ (b : Bool). cond b (some (stateIn [] (wordsIn file))) none) (file-passed (contentsOk file) (fileOk file) _ e .1)
+
+-- what passed the checks was lent enough for the sizes after it
+pub sizes-named : (z : Sizes) (c : Call) → asked z c ≡ 0 → sizesFor z c ≡ sizesAfter z c
+sizes-named z (start y l) e = refl
+sizes-named z (page p i b l) e = refl
+sizes-named z free e = refl
+sizes-named z (translate i x l) e = refl
+sizes-named z (read i x n l) e = refl
+sizes-named z (write i x vs l) e = refl
+sizes-named z (list i room l) e = refl
+sizes-named z (writeMap room l) e = refl
+sizes-named z (readMap file l) e = sym (ap (sizesBy z) (map-described z file l e))
 
 -- an accepted start makes any state sound
 pub start-sound : (m : State) (z : Sizes) (l : Lent) → answer m (start z l) ≡ done → Sound (after m (start z l))
@@ -275,6 +336,7 @@ history-sound m (c ∷ cs) s = history-sound (after m c) cs (step-sound m c s)
 ram-long : (m m′ : State) (e : Effect) → MayChangeBy m e m′ → length (m′ .ram) ≡ length (m .ram)
 ram-long m m′ unchanged c = ap (λ (u : State). length (u .ram)) c
 ram-long m m′ (prepared z) c = ap length c
+ram-long m m′ (refilled z) c = ap length c
 ram-long m m′ (startPut i b) c = ap length (c .ram)
 ram-long m m′ (pageMapped i b) c = c .1 .ram-size
 ram-long m m′ (regionEmptied i b) c = ap length (c .1)

@@ -1,6 +1,7 @@
 -- The nine page sizes as powers of two, for the loop that makes one.
 use mathlib.Core.Path.{_≡_, refl, sym, ap, _∙_}
 use mathlib.Core.Logic.{_≢_}
+use mathlib.Core.Bool.{Bool, true, false, cond}
 use Prim.Native.Nat.{ℕ, _+_, _*_, _^_, _≤_, _<_}
 use native.Mathlib.Nat.{pow-suc, lt-of-not-le, not-le-of-lt}
 use native.Mathlib.Numerals.{add-one}
@@ -11,7 +12,10 @@ use lib.Dec.{eqb}
 use lib.Pow.{pow-mono, pow-lt}
 use Rattle.places.specs.Laws.{any-holds, any-clear}
 use Rattle.machine.specs.Machine.{isPageSize}
-use Rattle.machine.specs.Answers.{size, no-size, pageSizeFor}
+use Rattle.machine.specs.Answers.{size, no-size, pageSizeSays, pageSizeFor}
+use Rattle.machine.specs.declared.PageSize.{PageSize}
+use Rattle.machine.specs.declared.MadeSize.{MadeSize}
+use Rattle.machine.specs.declared.MadeSize.the-variants.{Made, Refused}
 
 -- the sizes tried so far, up to 2 ^ shift, aren't n
 pub record Tried (n power shift : ℕ) : Type 0 where
@@ -58,3 +62,22 @@ unfolding pageSizeFor isPageSize
 none-made n power shift t h =
     let high = high-shift shift (let q = t .is in omega arith) in
     rw (any-clear (λ k. eqb n (2 ^ k)) 8 9 (λ k l g. ne-eqb n (2 ^ k) (t .none k l (omega arith))))
+
+-- ---- what a size made, or none, says of the bytes asked for
+
+module _ (n : ℕ) (made : MadeSize) (of : pageSizeSays made ≡ pageSizeFor n) where
+  pub none-of : (k : ℕ) → made ≡ Refused k → isPageSize n ≡ false
+  unfolding pageSizeFor
+  none-of k e = go (isPageSize n) (rw e at of)
+    where
+      go : (b : Bool) → no-size k ≡ cond b (size n) (no-size 1) → b ≡ false
+      go true q = absurd (let z : _≡_ {A = ℕ} 0 1 = cc in omega arith)
+      go false q = refl
+
+  pub bytes-of : (p : PageSize) → made ≡ Made p → 2 ^ (p .shift) ≡ n
+  unfolding pageSizeFor
+  bytes-of p e = go (isPageSize n) (rw e at of)
+    where
+      go : (b : Bool) → size (2 ^ (p .shift)) ≡ cond b (size n) (no-size 1) → 2 ^ (p .shift) ≡ n
+      go true q = cc
+      go false q = absurd (let z : _≡_ {A = ℕ} 0 1 = cc in omega arith)

@@ -1,18 +1,21 @@
 -- What doesn't look at the RAM: a machine with another RAM answers alike, but for the bytes that a read brings, and goes to the same state but for the RAM.
-use mathlib.Core.Path.{_≡_, refl, sym, ap, _∙_}
+use mathlib.Core.Path.{_≡_, refl, sym, ap, _∙_, fun-ext}
 use mathlib.Core.Bool.{Bool, true, false, cond, _||_}
 use mathlib.Core.Option.{Option, none, some}
-use mathlib.Core.List.{List, [], _∷_}
+use mathlib.Core.List.{List, [], _∷_, _++_, map}
 use Prim.Native.Nat.{ℕ, zero, suc, _+_, _<_}
 use lib.Dec.{leb}
 use lib.ListN.{length, replicate}
-use Rattle.sequence.specs.Lists.{length-tabulate}
+use Rattle.sequence.specs.Lists.{tabulate, length-tabulate}
+use Rattle.sequence.specs.Sums.{sum}
+use Rattle.words.specs.Words.{bytesOf}
 use Rattle.machine.specs.declared.Region.{Region}
 use Rattle.machine.specs.Machine.{State, Pair, Page, outside, unmapped, mapped, pageOf, wordsAt, placeOf, pageOfAddress, spanPages, isStart}
 use Rattle.machine.specs.Machine.{region, Answer, bytes, Out, tell, unlessResident, markAt, dropAt, releaseAt, touchNew, touchPage, touchAt, touchAll}
 use Rattle.machine.specs.Machine.{absence, orElse, firstAbsence, spanAbsence, byteAt, readIf, isOutside, anyOutside, isUnmapped, countAbsent}
 use Rattle.machine.specs.Machine.{withRam, storeAll, spanTouched, spanOutside, spanShort, writeIf, writeAt, untilStart, records, recordsOf}
-use Rattle.machine.specs.Machine.{listIf}
+use Rattle.machine.specs.Machine.{listIf, mapIf}
+use Rattle.machine.specs.Map.{Block, Part, bodyWords, fileWords, blockOf, blocksOf, poolPart, mapOf}
 use Rattle.machine.specs.Claims.{Address, blind}
 
 -- ---- the parts of a call
@@ -42,6 +45,14 @@ module _ (ram : List ℕ) where
       (λ (rest : List Region). cond (isStart m p)
       (record { start = b; length = suc (untilStart (isStart m) (suc p) n); resident = length (region m p) } ∷ rest) rest)
       (records-any m lo (suc b) n)
+
+  blocks-any : (m : State) (i : ℕ) → blocksOf (withRam m ram) i ≡ blocksOf m i
+  blocks-any m i = ap (map (blockOf m (placeOf (m .sizes) i 0))) (records-any m (placeOf (m .sizes) i 0) 0 (m .sizes .pages))
+
+  pub map-any : (m : State) → mapOf (withRam m ram) ≡ mapOf m
+  map-any m =
+      ap (λ (f : ℕ → Part). bytesOf (fileWords (m .sizes) (tabulate f (m .sizes .spaces) ++ (poolPart m ∷ []))))
+      (fun-ext (λ i. ap (λ (bs : List Block). record { words = bodyWords bs; count = sum (λ b. length (b .entries)) bs }) (blocks-any m i)))
 
 -- ---- each call
 
@@ -134,3 +145,9 @@ module _ (m : State) (ram : List ℕ) where
       → let rs = recordsOf (withRam m ram) i in
       Alike (withRam m ram) m (tell (withRam m ram) (listIf rs (leb (length rs) room))) (tell m (listIf (recordsOf m i) (leb (length (recordsOf m i)) room)))
   list-alike i room = rw (records-any ram m (placeOf (m .sizes) i 0) 0 (m .sizes .pages)) (told-alike m ram _)
+
+  -- the map has nothing of the RAM
+  pub map-alike : (room : ℕ)
+      → let file = mapOf (withRam m ram) in
+      Alike (withRam m ram) m (tell (withRam m ram) (mapIf file (leb (length file) room))) (tell m (mapIf (mapOf m) (leb (length (mapOf m)) room)))
+  map-alike room = rw (map-any ram m) (told-alike m ram _)

@@ -106,12 +106,17 @@ returns-16 c =
 returns-17 : tie.Need-returns-17
 returns-17 c =
     let t = c .before .before .before .before .before in
-    roomed (t .before .before) _ (t .reply9 .given .1) (omega arith) (c .before .before .put-no .ensures)
+    roomed (t .before .before) _ (t .reply9 .given .1) (omega arith) (c .before .before .put-map .ensures)
 
 returns-18 : tie.Need-returns-18
 returns-18 c =
     let t = c .before .before .before .before .before in
-    roomed (t .before .before) _ (t .reply10 .given .1) (omega arith) (c .before .before .put-refusal .ensures)
+    roomed (t .before .before) _ (t .reply10 .given .1) (omega arith) (c .before .before .put-no .ensures)
+
+returns-19 : tie.Need-returns-19
+returns-19 c =
+    let t = c .before .before .before .before .before in
+    roomed (t .before .before) _ (t .reply11 .given .1) (omega arith) (c .before .before .put-refusal .ensures)
 
 pub say-spec : {M : Type 1} → statement M
 say-spec =
@@ -122,6 +127,7 @@ say-spec =
     (λ c. search needs) (λ c κs. search needs) (λ c. search needs) (λ c κs. search needs) (λ c. search needs) (λ c κs. search needs)
     (λ c. search needs) (λ c κs. search needs) (λ c. search needs) returns-5 (λ c. search needs) (λ c. search needs) returns-6
     slice-aggregate-put-regions put-regions-requires (λ c. search needs) (λ c κs. search needs) (λ c. search needs) (λ c κs. search needs)
-    (λ c. search needs) returns-7 (λ c. search needs) returns-8 (λ c. search needs) returns-9 (λ c. search needs) returns-10 (λ c. search needs)
-    returns-11 (λ c. search needs) returns-12 (λ c. search needs) returns-13 (λ c. search needs) returns-14 (λ c. search needs) returns-15
-    (λ c. search needs) returns-16 (λ c. search needs) returns-17 (λ c. search needs) returns-18)
+    (λ c. search needs) (λ c κs. search needs) (λ c. search needs) returns-7 (λ c. search needs) returns-8 (λ c. search needs) returns-9
+    (λ c. search needs) returns-10 (λ c. search needs) returns-11 (λ c. search needs) returns-12 (λ c. search needs) returns-13 (λ c. search needs)
+    returns-14 (λ c. search needs) returns-15 (λ c. search needs) returns-16 (λ c. search needs) returns-17 (λ c. search needs) returns-18
+    (λ c. search needs) returns-19)

@@ -1,4 +1,4 @@
--- Case by case; a filled buffer has its length, and so have the records.
+-- Case by case; a filled buffer has its length, and so have the records and the map.
 use Rattle.requests.specs.Laws.{records-length}
 use borrow.Author.Needs.{needs}
 use Rattle.requests.proofs.encode.Statement.{statement}
@@ -35,10 +35,13 @@ returns-10 : tie.Need-returns-10
 returns-10 c = λ buffer records e. rw (c .before .before .reply8 .given .1, records-length) (c .numbers10 .ensures)
 
 returns-11 : tie.Need-returns-11
-returns-11 c = λ buffer records e. rw (c .before .before .reply9 .given .1) (c .numbers11 .ensures)
+returns-11 c = λ buffer records e. rw (c .before .before .before .reply9 .given .1, c .before .there .ensures buffer e) (c .numbers11 .ensures)
 
 returns-12 : tie.Need-returns-12
 returns-12 c = λ buffer records e. rw (c .before .before .reply10 .given .1) (c .numbers12 .ensures)
+
+returns-13 : tie.Need-returns-13
+returns-13 c = λ buffer records e. rw (c .before .before .reply11 .given .1) (c .numbers13 .ensures)
 
 pub encode-spec : {M : Type 1} → statement M
 encode-spec =
@@ -48,5 +51,6 @@ encode-spec =
     (λ c κs. search needs) (λ c. search needs) (λ c. search needs) (λ c κs. search needs) (λ c. search needs) (λ c κs. search needs)
     (λ c. search needs) (λ c. search needs) (λ c κs. search needs) (λ c. search needs) (λ c. search needs) (λ c κs. search needs) (λ c. search needs)
     (λ c κs. search needs) (λ c. search needs) (λ c κs. search needs) (λ c. search needs) (λ c. search needs) (λ c κs. search needs)
-    (λ c. search needs) (λ c κs. search needs) (λ c. search needs) (λ c κs. search needs) returns returns-2 returns-3 returns-4 returns-5 returns-6
-    returns-7 returns-8 returns-9 returns-10 returns-11 returns-12)
+    (λ c. search needs) (λ c κs. search needs) (λ c κs. search needs) (λ c. search needs) (λ c κs. search needs) (λ c. search needs)
+    (λ c κs. search needs) returns returns-2 returns-3 returns-4 returns-5 returns-6 returns-7 returns-8 returns-9 returns-10 returns-11 returns-12
+    returns-13)

@@ -1,6 +1,6 @@
 -- Each arm is its call's own promise.
 use native.Mathlib.Omega.{arith}
-use Rattle.pages.specs.Serving.{done-serves, free-serves, translated-serves, read-serves, list-serves}
+use Rattle.pages.specs.Serving.{done-serves, free-serves, translated-serves, read-serves, list-serves, map-serves}
 use borrow.Author.Needs.{needs}
 use Rattle.serving.proofs.serve.Statement.{statement}
 use Rattle.serving.proofs.serve.Tie as tie
@@ -45,6 +45,60 @@ returns-7 c =
     rw (t .before .before .before .before .before .request6 .given .1)
     (list-serves _ _ _ _ _ _ _ (omega arith) (t .list .ensures _ _ _ _ _ _) (c .of-listed .ensures))
 
+returns-8 : tie.Need-returns-8
+returns-8 c =
+    let t = c .before .before .before in
+    rw (t .before .before .before .before .before .before .before .enum-told2 .given .1)
+    (map-serves _ _ _ _ _ _ (omega arith) (t .write-map .ensures _ _ _) (c .of-written .ensures))
+
+returns-9 : tie.Need-returns-9
+returns-9 c =
+    let t = c .before .before .before .before .before .before .before .before .before .before .before .before .before .before .before .before in
+    rw (t .before .before .before .before .before .before .before .before .before .enum-told3 .given .1)
+    (done-serves _ _ _ _ _ _ (t .read-map .result .answer) (t .read-map .ensures _) (c .of-done3 .ensures))
+
+same-length-37 : tie.Need-same-length-37
+same-length-37 c = search needs
+
+same-length-38 : tie.Need-same-length-38
+same-length-38 c = search needs
+
+same-length-39 : tie.Need-same-length-39
+same-length-39 c = search needs
+
+same-length-40 : tie.Need-same-length-40
+same-length-40 c = search needs
+
+same-length-41 : tie.Need-same-length-41
+same-length-41 c = search needs
+
+same-length-42 : tie.Need-same-length-42
+same-length-42 c = search needs
+
+same-length-43 : tie.Need-same-length-43
+same-length-43 c = search needs
+
+same-length-44 : tie.Need-same-length-44
+same-length-44 c = search needs
+
+same-length-45 : tie.Need-same-length-45
+same-length-45 c = search needs
+
+same-length-46 : tie.Need-same-length-46
+same-length-46 c = search needs
+
+same-length-47 : tie.Need-same-length-47
+same-length-47 c = search needs
+
+same-length-48 : tie.Need-same-length-48
+same-length-48 c = search needs
+
+same-length-49 : tie.Need-same-length-49
+same-length-49 c = search needs
+
+same-length-50 : tie.Need-same-length-50
+same-length-50 c = search needs
+
 pub serve-spec : {M : Type 1} → statement M
 serve-spec =
     tie.close
@@ -52,10 +106,13 @@ serve-spec =
     (λ c. search needs) (λ c κs. search needs) (λ c κs. search needs) (λ c. search needs) (λ c κs. search needs) (λ c. search needs)
     (λ c κs. search needs) (λ c κs. search needs) (λ c. search needs) (λ c κs. search needs) (λ c κs. search needs) (λ c. search needs)
     (λ c κs. search needs) (λ c κs. search needs) (λ c. search needs) (λ c κs. search needs) (λ c κs. search needs) (λ c. search needs)
+    (λ c κs. search needs) (λ c κs. search needs) (λ c. search needs) (λ c κs. search needs) (λ c κs. search needs) (λ c. search needs)
     (λ c κs. search needs) (λ c κs. search needs) (λ c. search needs) (λ c. search needs) returns (λ c. search needs) (λ c. search needs)
     (λ c. search needs) (λ c. search needs) (λ c. search needs) (λ c. search needs) (λ c. search needs) (λ c. search needs) returns-2 returns-3
-    (λ c. search needs)
-    (λ c. search needs) (λ c. search needs) (λ c. search needs) (λ c. search needs) (λ c. search needs) returns-4 (λ c. search needs)
+    (λ c. search needs) (λ c. search needs) (λ c. search needs) (λ c. search needs) (λ c. search needs) (λ c. search needs) returns-4
     (λ c. search needs) (λ c. search needs) (λ c. search needs) (λ c. search needs) (λ c. search needs) (λ c. search needs) (λ c. search needs)
-    returns-5 (λ c. search needs) (λ c. search needs) (λ c. search needs) (λ c. search needs) (λ c. search needs) (λ c. search needs)
-    (λ c. search needs) (λ c. search needs) (λ c. search needs) returns-6 (λ c. search needs) (λ c. search needs) (λ c. search needs) returns-7)
+    (λ c. search needs) returns-5 (λ c. search needs) (λ c. search needs) (λ c. search needs) (λ c. search needs) (λ c. search needs)
+    (λ c. search needs) (λ c. search needs) (λ c. search needs) (λ c. search needs) returns-6 (λ c. search needs) (λ c. search needs)
+    (λ c. search needs) returns-7 same-length-37 same-length-38 same-length-39 same-length-40 same-length-41
+    same-length-42 returns-8 same-length-43 same-length-44 same-length-45 same-length-46 same-length-47
+    same-length-48 same-length-49 same-length-50 returns-9)

@@ -1,9 +1,9 @@
 -- The name at the front decides.
 use mathlib.Core.Path.{sym, _∙_}
 use borrow.Author.Needs.{needs}
-use Rattle.parsing.specs.Grammar.{startWord, freeWord, translateWord, readWord, writeWord, listWord, parsed}
+use Rattle.parsing.specs.Grammar.{startWord, freeWord, translateWord, readWord, writeWord, listWord, mapWord, parsed}
 use Rattle.parsing.specs.Laws.{named-inside}
-use Rattle.parsing.proofs.Names.{named-long, named-parsed, not-named, page-is, start-is, free-is, translate-is, read-is, write-is, list-is}
+use Rattle.parsing.proofs.Names.{named-long, named-parsed, not-named, page-is, start-is, free-is, translate-is, read-is, write-is, list-is, map-is}
 use Rattle.parsing.proofs.calls.parse.Statement.{statement}
 use Rattle.parsing.proofs.calls.parse.Tie as tie
 
@@ -64,10 +64,19 @@ returns-7 c =
     let is = named-parsed listWord _ (c .before .before .begins-with6 .ensures) (c .before .if6 .taken) (list-is _) in
     rw (c .list-line .ensures, is)
 
+map-line-requires : tie.Need-map-line-requires
+map-line-requires c κs = named-long mapWord _ (c .before .begins-with7 .ensures) (c .if7 .taken)
+
 returns-8 : tie.Need-returns-8
-unfolding parsed
 returns-8 c =
-    let no-write = c .before .before .before in
+    let is = named-parsed mapWord _ (c .before .before .begins-with7 .ensures) (c .before .if7 .taken) (map-is _) in
+    rw (c .map-line .ensures, is)
+
+returns-9 : tie.Need-returns-9
+unfolding parsed
+returns-9 c =
+    let no-list = c .before .before .before in
+    let no-write = no-list .before .before .before in
     let no-read = no-write .before .before .before in
     let no-translate = no-read .before .before .before in
     let no-free = no-translate .before .before .before in
@@ -80,7 +89,8 @@ returns-8 c =
       not-named translateWord _ (no-translate .before .begins-with3 .ensures) (no-translate .if3 .left),
       not-named readWord _ (no-read .before .begins-with4 .ensures) (no-read .if4 .left),
       not-named writeWord _ (no-write .before .begins-with5 .ensures) (no-write .if5 .left),
-      not-named listWord _ (c .before .begins-with6 .ensures) (c .if6 .left),
+      not-named listWord _ (no-list .before .begins-with6 .ensures) (no-list .if6 .left),
+      not-named mapWord _ (c .before .begins-with7 .ensures) (c .if7 .left),
     )
 
 pub parse-spec : {M : Type 1} → statement M
@@ -90,4 +100,5 @@ parse-spec =
     (λ c. search needs) (λ c κs. search needs) start-line-requires returns (λ c κs. search needs) (λ c. search needs) page-line-requires returns-2
     (λ c. search needs) (λ c. search needs) (λ c κs. search needs) free-line-requires returns-3 (λ c. search needs) (λ c κs. search needs)
     translate-line-requires returns-4 (λ c. search needs) (λ c κs. search needs) read-line-requires returns-5 (λ c. search needs)
-    (λ c κs. search needs) write-line-requires returns-6 (λ c. search needs) (λ c κs. search needs) list-line-requires returns-7 returns-8)
+    (λ c κs. search needs) write-line-requires returns-6 (λ c. search needs) (λ c κs. search needs) list-line-requires returns-7 (λ c. search needs)
+    (λ c κs. search needs) map-line-requires returns-8 returns-9)

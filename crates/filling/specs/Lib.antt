@@ -1,0 +1,6 @@
+pub mod Partial
+pub mod Stands
+pub mod Laws
+pub mod Order
+pub mod Filling
+pub mod Honest

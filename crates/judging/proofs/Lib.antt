@@ -1,0 +1,4 @@
+pub mod Rows
+pub mod Sizing
+pub mod Counts
+pub mod Judged

@@ -1,0 +1,4 @@
+pub mod Contents
+pub mod Tiles
+pub mod Same
+pub mod Bodied

@@ -1,0 +1,4 @@
+pub mod Rows
+pub mod Walking
+pub mod Laws
+pub mod Regions
