@@ -48,19 +48,19 @@ MAPS = {
     ("read map pool", 262184): (108, 146),          # 107.2 and 145.0
     ("read map board", 1084): (149, 175),           # 148.5 and 174.3
     ("read map board", 406300): (148, 180),         # 147.7 and 179.2
-    ("write map regions", 972): (129, 162),         # 128.8 and 161.2
-    ("write map regions", 15132): (130, 164),       # 129.6 and 163.7
-    ("write map regions", 230172): (135, 174),      # 134.0 and 173.7
-    ("write map regions", 3670812): (135, 175),     # 134.3 and 174.3
-    ("write map pairs", 948): (168, 166),           # 167.1 and 165.7
-    ("write map pairs", 16436): (182, 181),         # 181.9 and 180.8
-    ("write map pairs", 262196): (183, 182),        # 182.8 and 181.8
-    ("write map pairs", 524340): (186, 183),        # 185.8 and 181.9
-    ("write map pool", 1000): (120, 136),           # 119.1 and 135.5
-    ("write map pool", 16424): (108, 132),          # 107.2 and 131.1
-    ("write map pool", 262184): (107, 131),         # 106.3 and 130.8
-    ("write map board", 1084): (131, 129),          # 130.3 and 128.2
-    ("write map board", 406300): (155, 162),        # 154.4 and 160.9
+    ("write map regions", 972): (130, 162),         # 129.1 and 161.6
+    ("write map regions", 15132): (130, 165),       # 129.9 and 164.0
+    ("write map regions", 230172): (133, 173),      # 132.9 and 172.2
+    ("write map regions", 3670812): (134, 173),     # 133.1 and 172.7
+    ("write map pairs", 948): (176, 174),           # 175.4 and 173.9
+    ("write map pairs", 16436): (189, 188),         # 188.4 and 187.3
+    ("write map pairs", 262196): (190, 189),        # 189.2 and 188.2
+    ("write map pairs", 524340): (185, 181),        # 184.7 and 180.9
+    ("write map pool", 1000): (109, 124),           # 108.4 and 123.3
+    ("write map pool", 16424): (107, 131),          # 106.4 and 130.2
+    ("write map pool", 262184): (107, 131),         # 106.3 and 130.7
+    ("write map board", 1084): (139, 136),          # 138.2 and 136.0
+    ("write map board", 406300): (154, 160),        # 153.1 and 159.5
 }
 HELD |= {(f"{what} of {size:,} bytes", engine): most for (what, size), both in MAPS.items() for engine, most in zip(("checked", "clang_checked"), both)}
 # What is held beside the aims: hundredths of the same work by another engine, and which functions do it.

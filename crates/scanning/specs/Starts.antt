@@ -19,6 +19,20 @@ use Rattle.machine.specs.State.{untilStart}
 abbrev pub NoneIn : (ℕ → Bool) → ℕ → ℕ → Type 0
 NoneIn s p q = (i : ℕ) → p ≤ i → i < q → s i ≡ false
 
+-- no start in words a to b of the lowest layer
+abbrev pub Empty : List ℕ → ℕ → ℕ → Type 0
+Empty ws a b = (w : ℕ) → a ≤ w → w < b → getD ws w 0 ≡ 0
+
+pub empty-more : (ws : List ℕ) (a b : ℕ) → Empty ws a b → getD ws b 0 ≡ 0 → Empty ws a (b + 1)
+empty-more ws a b e none w from to = elim (decLt w b) [
+  | yes l ↦ e w from l
+  | no l ↦ ap (λ (i : ℕ). getD ws i 0) (omega arith) ∙ none
+]
+
+pub empty-none : (ws : List ℕ) (a b : ℕ) → Empty ws a b → NoneIn (bitAt ws) (a * 64) (64 * b)
+unfolding bitAt
+empty-none ws a b e i from to = ap (λ (w : ℕ). bit w (i % 64)) (e (i / 64) (omega arith) (omega arith)) ∙ bit-zero (i % 64)
+
 module _ (s : ℕ → Bool) where
   pub none-more : {p q r : ℕ} → NoneIn s p q → NoneIn s q r → NoneIn s p r
   none-more {p} {q} {r} f g i a b = elim (decLt i q) [

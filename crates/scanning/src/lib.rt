@@ -5,8 +5,25 @@ ghost use lib.ListN.{length};
 ghost use Rattle.places.specs.Places.{wordsFor};
 ghost use Rattle.layer.specs.Words.{bitAt};
 ghost use Rattle.machine.specs.State.{untilStart};
+ghost use Rattle.scanning.specs.Starts.{Empty};
 
-// The first start from place p on, or `end`. A word without starts is passed at once.
+// The first word from word `from` on that has a start, among those of `end` places; else the word after them, or `from`.
+fn pass_empty(index: &[u64], from: usize, end: usize) -> usize
+    requires { ⌜ (from ≤ 4096) × (end ≤ 262144) × (wordsFor end ≤ length (now index)) ⌝ }
+    ensures { λ r. ⌜ (from ≤ r) × (r ≤ 4096) × Empty (now (index .entry)) from r ⌝ }
+{
+    let words = (end + 63) / 64;
+    let mut w = from;
+    while w < words {
+        if index[w] != 0 {
+            return w;
+        }
+        w += 1;
+    }
+    w
+}
+
+// The first start from place p on, or `end`. Words without starts are passed in a loop of their own.
 pub fn next_start(index: &[u64], p: usize, end: usize) -> usize
     requires { ⌜ (p ≤ end) × (end ≤ 262144) × (wordsFor end ≤ length (now index)) ⌝ }
     ensures { λ r. ⌜ r ≡ p + untilStart (bitAt (now (index .entry))) p (end - p) ⌝ }
@@ -21,7 +38,7 @@ pub fn next_start(index: &[u64], p: usize, end: usize) -> usize
             }
             return end;
         }
-        q = (q / 64 + 1) * 64;
+        q = 64 * pass_empty(index, q / 64 + 1, end);
     }
     end
 }

@@ -4,7 +4,7 @@ use native.Mathlib.Omega.{arith}
 use lib.Count.{trailing-le}
 use lib.ListN.{getD}
 use Rattle.layer.specs.Words.{bitAt}
-use Rattle.scanning.specs.Starts.{rest, NoneIn, none-more, next-is, none-left, found-clear, found-start}
+use Rattle.scanning.specs.Starts.{rest, NoneIn, none-more, empty-none, next-is, none-left, found-clear, found-start}
 use Rattle.scanning.proofs.next_start.Statement.{statement}
 use Rattle.scanning.proofs.next_start.Tie as tie
 
@@ -24,34 +24,38 @@ shared-slice-read-word : tie.Need-shared-slice-read-word Inv-loop μ-loop
 shared-slice-read-word c = omega arith
 
 cast-found : tie.Need-cast-found Inv-loop μ-loop
-cast-found c = omega (arith, trailing-le 64 (rest (c .before .before .before .before .args .index .now) (c .before .before .before .loop .q)))
+cast-found c = omega (arith, trailing-le 64 (rest (c .before .before .before .before .before .args .index .now) (c .before .before .before .loop .q)))
 
 add-found : tie.Need-add-found Inv-loop μ-loop
-add-found c = omega (arith, trailing-le 64 (rest (c .before .before .before .before .args .index .now) (c .before .before .before .loop .q)))
+add-found c = omega (arith, trailing-le 64 (rest (c .before .before .before .before .before .args .index .now) (c .before .before .before .loop .q)))
 
 returns : tie.Need-returns Inv-loop μ-loop
 returns c =
-    let ws = c .before .before .before .before .before .args .index .now in
+    let ws = c .before .before .before .before .before .before .args .index .now in
     let l = c .before .before .before .before .loop in
-    let fits : getD ws (l .q / 64) 0 < 2 ^ 64 = omega (arith, c .before .before .shared-slice-known .given (l .q / 64)) in
+    let fits : getD ws (l .q / 64) 0 < 2 ^ 64 = omega (arith, c .before .before .shared-slice-known2 .given (l .q / 64)) in
     next-is _ _ _ _ (omega arith) (omega arith) (none-more _ (l .inv .1) (found-clear ws (l .q) fits (c .before .if1 .taken)))
     (λ _. found-start ws (l .q) fits (c .before .if1 .taken))
 
 returns-2 : tie.Need-returns-2 Inv-loop μ-loop
 returns-2 c =
-    let ws = c .before .before .before .before .before .args .index .now in
+    let ws = c .before .before .before .before .before .before .args .index .now in
     let l = c .before .before .before .before .loop in
-    let fits : getD ws (l .q / 64) 0 < 2 ^ 64 = omega (arith, c .before .before .shared-slice-known .given (l .q / 64)) in
+    let fits : getD ws (l .q / 64) 0 < 2 ^ 64 = omega (arith, c .before .before .shared-slice-known2 .given (l .q / 64)) in
     let clear = none-more _ (l .inv .1) (found-clear ws (l .q) fits (c .before .if1 .taken)) in
     next-is _ _ _ _ (omega arith) (omega arith) (λ i a b. clear i a (omega arith)) (λ h. absurd (omega arith))
 
+pass-empty-requires : tie.Need-pass-empty-requires Inv-loop μ-loop
+pass-empty-requires c κs = let t = c .before .before .before .before .before in (omega (arith, t .pre), t .pre .1, t .pre .2)
+
 loop-less : tie.Need-loop-less Inv-loop μ-loop
-loop-less c = omega arith
+loop-less c = omega (arith, c .pass-empty .ensures .0)
 
 loop-again : tie.Need-loop-again Inv-loop μ-loop
 loop-again c =
-    let l = c .before .before .before .loop in
-    (omega arith, none-more _ (l .inv .1) (none-left _ (l .q) (c .if1 .left)))
+    let l = c .before .before .before .before .loop in
+    let passed = c .pass-empty .ensures in
+    (omega (arith, passed .0), none-more _ (l .inv .1) (none-more _ (none-left _ (l .q) (c .before .if1 .left)) (empty-none _ _ _ (passed .2))))
 
 returns-3 : tie.Need-returns-3 Inv-loop μ-loop
 returns-3 c =
@@ -63,4 +67,4 @@ next-start-spec =
     tie.close
     (tie.spec
     Inv-loop μ-loop loop-holds mul-word shared-slice-read-word (λ c. omega arith) cast-found add-found returns returns-2 (λ c. omega arith)
-    (λ c. omega arith) loop-less loop-again returns-3)
+    pass-empty-requires (λ c. omega (arith, c .pass-empty .ensures .1)) loop-less loop-again returns-3)
