@@ -6,7 +6,7 @@ import re
 # An aim: its name, the cases that it is about (the largest ratio counts), and how many hundredths of the instructions of C written by hand the pager may
 # take at most, by engine. The C with the checks is "checked", that without any "method"; "clang_" stands before what clang compiled, the rest is gcc's.
 Aim = collections.namedtuple("Aim", "name cases most")
-# A case, as bench/count.c names it: what, its size, and the call that is counted. The size of a find is the index words that it reads.
+# A case, as bench/count.c or bench/maps.c names it: what, its size, and the call that is counted. The size of a find is the index words that it reads.
 WORDS = (1, 3, 5)
 AIMS = [
     Aim("touch of a resident page", [("touch resident", 0, "touch")], {"checked": 100, "clang_checked": 110}),
@@ -29,6 +29,8 @@ AIMS = [
     Aim("write of a page across two new ones", [("write new across", 4096, "write")], {"checked": 110, "clang_checked": 110}),
     Aim("write of 64 KiB of new pages", [("write new", 65536, "write")], {"checked": 110, "clang_checked": 110}),
     Aim("write of 1 MiB of new pages", [("write new", 1 << 20, "write")], {"checked": 110, "clang_checked": 110}),
+    # counted by bench/maps.c, of the last space of a board's map
+    Aim("how full a space is", [("full map board", size, "how_full") for size in (1084, 406300)], {"checked": 150, "clang_checked": 150}),
 ]
 # The map file's two calls, at every file of bench/maps.c: what most of it is, and its bytes, from about 1 KiB to the largest.
 FILES = {"regions": (972, 15132, 230172, 3670812), "pairs": (948, 16436, 262196, 524340), "pool": (1000, 16424, 262184), "board": (1084, 406300)}

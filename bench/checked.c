@@ -715,3 +715,13 @@ answer checked_read_map(corwystal_head *head, const uint8_t *file, size_t file_l
     *head = made;
     return SAY(CORWYSTAL_DONE, 0, 0);
 }
+
+answer checked_how_full(uint32_t space, const uint8_t *contents, size_t contents_len)
+{
+    uint32_t spaces = contents_len < 4 ? 0 : word_at(contents, 0);
+    if (spaces == 0 || spaces > CORWYSTAL_MOST_SPACES || contents_len < 4 * contents_words(spaces))
+        return SAY(CORWYSTAL_NO_SIZE, 0, 0);
+    if (space >= spaces)
+        return SAY(CORWYSTAL_NO_SPACE, 0, 0);
+    return SAY(CORWYSTAL_PAGES, 0, word_at(contents, 3 * (size_t)space + 6));
+}

@@ -1,5 +1,5 @@
 /*
- * Nine of the pager's calls by hand in C with the pager's checks: the arguments are those of corwystal.h. The faces hand over
+ * Ten of the pager's calls by hand in C with the pager's checks: the arguments are those of corwystal.h. The faces hand over
  * the pager's own record (faces.c).
  */
 #ifndef CHECKED_H
@@ -54,6 +54,8 @@ answer checked_read_map(corwystal_head *head, const uint8_t *file, size_t file_l
                         uint32_t *count, size_t count_len, uint32_t *table, size_t table_len, uint32_t *helper,
                         size_t helper_len, uint32_t *stack, size_t stack_len, uint32_t *cache, size_t cache_len,
                         uint32_t *link, size_t link_len);
+
+answer checked_how_full(uint32_t space, const uint8_t *contents, size_t contents_len);
 
 answer face_mark(corwystal_board *b, uint32_t space, uint32_t page);
 answer face_drop(corwystal_board *b, uint32_t space, uint32_t page);

@@ -1,7 +1,7 @@
 /*
- * The map file's two calls, by the pager and by hand in C with the checks, at sizes from 1 KiB to the largest file:
+ * The map file's calls, by the pager and by hand in C with the checks, at sizes from 1 KiB to the largest file:
  *     maps check     each file is read into garbage and written back the same; damaged by chance, all answer alike, a refusal changes nothing, and
- *                    what is accepted is written back the same
+ *                    what is accepted is written back the same; how full each space is, all tell alike, of damaged and cut contents too
  *     maps count     the same files once more under callgrind, which collects between the marks only and writes a dump for each case and engine
  */
 #include "checked.h"
@@ -13,17 +13,19 @@
 
 extern __typeof__(face_write_map) clang_face_write_map;
 extern __typeof__(face_read_map) clang_face_read_map;
+extern __typeof__(checked_how_full) clang_checked_how_full;
 
 typedef struct maps {
     const char *name;
     answer (*write)(const corwystal_board *, uint8_t *, size_t);
     answer (*read)(corwystal_board *, const uint8_t *, size_t);
+    answer (*full)(uint32_t, const uint8_t *, size_t);
 } maps;
 
 static const maps engines[] = {
-    {"pager", corwystal_board_write_map, corwystal_board_read_map},
-    {"checked", face_write_map, face_read_map},
-    {"clang_checked", clang_face_write_map, clang_face_read_map},
+    {"pager", corwystal_board_write_map, corwystal_board_read_map, corwystal_how_full},
+    {"checked", face_write_map, face_read_map, checked_how_full},
+    {"clang_checked", clang_face_write_map, clang_face_read_map, clang_checked_how_full},
 };
 
 enum { ENGINE_COUNT = sizeof engines / sizeof *engines, LARGEST = 3670812 };
@@ -182,6 +184,17 @@ static void round_trip(const shape *s, const maps *e, size_t n)
         fail("another file is written", s, e->name);
 }
 
+/* All engines tell the same of a space and the one after the last, by so many bytes of a file. */
+static void all_full(const shape *s, const uint8_t *bytes, size_t n)
+{
+    for (uint32_t space = 0; space <= s->spaces; space++)
+        for (int i = 1; i < ENGINE_COUNT; i++) {
+            answer a = engines[0].full(space, bytes, n), b = engines[i].full(space, bytes, n);
+            if (a.kind != b.kind || a.value != b.value || a.words != 0 || b.words != 0)
+                fail("another answer of how full a space is than the first engine's", s, engines[i].name);
+        }
+}
+
 static void by_chance(const shape *s, size_t n, unsigned rounds)
 {
     for (unsigned r = 0; r < rounds; r++) {
@@ -191,6 +204,8 @@ static void by_chance(const shape *s, size_t n, unsigned rounds)
             put(damaged, at, draw(2) == 0 ? draw(8) : get(damaged, at) + draw(3) - 1);
         }
         size_t length = draw(8) == 0 ? draw((uint32_t)n) : n;
+        all_full(s, damaged, length);
+        all_full(s, damaged, draw((uint32_t)CORWYSTAL_CONTENTS_BYTES(s->spaces) + 2));
         uint32_t kinds[ENGINE_COUNT];
         for (int i = 0; i < ENGINE_COUNT; i++) {
             litter();
@@ -215,6 +230,11 @@ static void check(void)
         unsigned rounds = n < 4096 ? 60 : 3;
         for (int i = 0; i < ENGINE_COUNT; i++)
             round_trip(&shapes[k], &engines[i], n);
+        for (uint32_t space = 0; space < shapes[k].spaces; space++)
+            if (engines[0].full(space, file, n).value != get(file, 3 * (size_t)space + 6))
+                fail("another number of resident pages than the file's", &shapes[k], engines[0].name);
+        all_full(&shapes[k], file, CORWYSTAL_CONTENTS_BYTES(shapes[k].spaces));
+        all_full(&shapes[k], file, CORWYSTAL_CONTENTS_BYTES(shapes[k].spaces) - 1);
         by_chance(&shapes[k], n, rounds);
         damages += rounds;
         least = n < least ? n : least;
@@ -246,7 +266,11 @@ static void count_all(void)
             answer b = engines[i].write(&board, back, sizeof back);
             CALLGRIND_TOGGLE_COLLECT;
             dump("write", &shapes[k], n, &engines[i]);
-            if (a.kind != CORWYSTAL_DONE || b.kind != CHECKED_MAP || b.value != n)
+            CALLGRIND_TOGGLE_COLLECT;
+            answer c = engines[i].full(shapes[k].spaces - 1, file, CORWYSTAL_CONTENTS_BYTES(shapes[k].spaces));
+            CALLGRIND_TOGGLE_COLLECT;
+            dump("full", &shapes[k], n, &engines[i]);
+            if (a.kind != CORWYSTAL_DONE || b.kind != CHECKED_MAP || b.value != n || c.kind != CORWYSTAL_PAGES)
                 fail("refused", &shapes[k], engines[i].name);
         }
     }

@@ -63,7 +63,10 @@ extern "C" {
 #define CORWYSTAL_INDEX_WORDS(t)                                                                                       \
     (CORWYSTAL_LAYER_WORDS(t) + CORWYSTAL_LAYER_ABOVE(CORWYSTAL_LAYER_WORDS(t)) +                                      \
      CORWYSTAL_LAYER_ABOVE(CORWYSTAL_LAYER_ABOVE(CORWYSTAL_LAYER_WORDS(t))))
-#define CORWYSTAL_MAP_BYTES(s, t, f) (4 * (3 * (size_t)(s) + 7 + 3 * (size_t)(t) + 2 * (size_t)(f)))
+#define CORWYSTAL_MAP_BYTES(s, t, f) (CORWYSTAL_CONTENTS_BYTES(s) + 4 * (3 * (size_t)(t) + 2 * (size_t)(f)))
+
+/* Bytes of the contents, with which a map of S spaces begins; of 64 spaces 796, the most. */
+#define CORWYSTAL_CONTENTS_BYTES(s) (4 * (3 * (size_t)(s) + 7))
 
 /* Entries of each buffer, computed; refusal is 1 for sizes outside their limits, and the rest is then 0. */
 typedef struct corwystal_needs {
@@ -129,7 +132,7 @@ enum {
     CORWYSTAL_NEW = 18,      /* touch: value is the frame; it was mapped just now and is all zeros */
     CORWYSTAL_RESIDENT = 19, /* look: value is the frame */
     CORWYSTAL_ABSENT = 20,   /* look */
-    CORWYSTAL_PAGES = 21,    /* release: value is the number of pages given back */
+    CORWYSTAL_PAGES = 21,    /* release: value is the number of pages given back; how_full: of resident pages */
     CORWYSTAL_FRAMES = 22,   /* free_count: value is the number of frames in the pool */
     CORWYSTAL_AT = 23,       /* translate: value is the place in RAM */
     CORWYSTAL_BYTES = 24,    /* read: value is the number of bytes, all of the buffer */
@@ -275,6 +278,15 @@ corwystal_answer corwystal_read_map(corwystal_head *head, const uint8_t *file, s
                                     size_t table_len, uint32_t *helper, size_t helper_len, uint32_t *stack,
                                     size_t stack_len, uint32_t *cache, size_t cache_len, uint32_t *link,
                                     size_t link_len);
+
+/*
+ * How full a space is, from the contents of a map file alone: its first CORWYSTAL_CONTENTS_BYTES, or more, as all of the file; what follows
+ * them is not read. Takes no head and no tables, so it works where no pager is. The answer is the number of resident pages that the contents
+ * tell, as it stands: right for every file that read_map accepts, any number in a damaged one. Refused with 1 if the contents are cut short
+ * or their number of spaces is outside its limits (fetch more of the file, or fetch it again), then with 2 if there is no such space.
+ */
+CORWYSTAL_USE_ANSWER
+corwystal_answer corwystal_how_full(uint32_t space, const uint8_t *contents, size_t contents_len);
 
 #ifdef __cplusplus
 }

@@ -60,7 +60,13 @@ pub const fn index_words(places: usize) -> usize {
 /// The bytes of a map file at most, of so many spaces, places and frames, as a constant; [`Needs::map`] is the same.
 #[must_use]
 pub const fn map_bytes(spaces: usize, places: usize, frames: usize) -> usize {
-    4 * (3 * spaces + 7 + 3 * places + 2 * frames)
+    contents_bytes(spaces) + 4 * (3 * places + 2 * frames)
+}
+
+/// The bytes of the contents, with which a map of so many spaces begins; of 64 spaces 796, the most.
+#[must_use]
+pub const fn contents_bytes(spaces: usize) -> usize {
+    4 * (3 * spaces + 7)
 }
 
 impl Sizes {
@@ -92,8 +98,7 @@ impl Sizes {
             frames: word(2)?,
             page: word(3)?,
         };
-        let contents = 4 * (3 * u64::from(sizes.spaces) + 7);
-        (contents <= file.len() as u64).then_some(sizes)
+        (contents_bytes(sizes.spaces as usize) <= file.len()).then_some(sizes)
     }
 }
 
@@ -465,6 +470,15 @@ impl<'a> Pager<'a> {
     }
 }
 
+/// How full a space is, from the contents of a map file alone: its first [`contents_bytes`], or more, as all of the file; what follows them
+/// isn't read. It needs no pager. The answer is the number of resident pages that the contents tell, as it stands: right for every file that
+/// [`Pager::read_map`] accepts, any number in a damaged one. Refused with [`Refusal::Size`] if the contents are cut short or their number of
+/// spaces is outside its limits, then with [`Refusal::NoSpace`].
+pub fn how_full(space: u32, contents: &[u8]) -> Result<u32, Refusal> {
+    let answer = lend!(corwystal_how_full(space; as_ptr contents));
+    Ok(answer.value_of(raw::PAGES)? as u32)
+}
+
 // The C entrance, as bindings/c/corwystal.h declares it.
 mod raw {
     use super::{Refusal, Refused, Region};
@@ -737,5 +751,7 @@ mod raw {
             link: *mut u32,
             link_len: usize,
         ) -> Answer;
+
+        pub fn corwystal_how_full(space: u32, contents: *const u8, contents_len: usize) -> Answer;
     }
 }

@@ -17,7 +17,7 @@
 
 /* ---- the memory of a scene: all that a call may change, in one piece */
 
-enum { MOST_PLACES = 4097, FRAMES = 8, MANY_FRAMES = 100, PAGE = 256, RECORDS = 8, FILE = 512 };
+enum { MOST_PLACES = 4097, FRAMES = 8, MANY_FRAMES = 100, PAGE = 256, RECORDS = 8, FILE = CORWYSTAL_CONTENTS_BYTES(65) };
 
 static struct memory {
     corwystal_head head;
@@ -210,6 +210,17 @@ static void a_map_of_three_layers(void) { map_of(three_layers, two_ends); }
 
 static void a_map_without_pages(void) { map_of(two_ends, no_starts); }
 
+/* Its number of spaces is none. */
+static void a_map_of_no_spaces(void) {
+    a_map();
+    now.file[0] = 0;
+}
+
+static void a_map_of_65_spaces(void) {
+    a_map();
+    now.file[0] = 65;
+}
+
 /* A table is too short for it. */
 static void short_tables(void) {
     a_map();
@@ -218,7 +229,7 @@ static void short_tables(void) {
 
 /* ---- the call */
 
-enum call { START, MARK, DROP, TOUCH, LOOK, RELEASE, FREE_COUNT, TRANSLATE, READ, WRITE, LIST, WRITE_MAP, READ_MAP, SIZES };
+enum call { START, MARK, DROP, TOUCH, LOOK, RELEASE, FREE_COUNT, TRANSLATE, READ, WRITE, LIST, WRITE_MAP, READ_MAP, HOW_FULL, SIZES };
 
 /* Of a map that is read, a word is made another: its place, counted from 1, in `at`, the word in `space`. That of two gauges has sizes in words 0 to 3, rows
    up to word 12, two regions with 3 and 0 pages from word 13 on, one with 1 page from word 25 on, and four frames from word 30 on. */
@@ -355,6 +366,13 @@ static const struct scene {
     {"read_map", "with a page's frame outside", a_map, READ_MAP, FRAMES, 18, 0, CORWYSTAL_NO_MAP},
     {"read_map", "with a frame outside", a_map, READ_MAP, FRAMES, 34, 0, CORWYSTAL_NO_MAP},
     {"read_map", "with a table too short", short_tables, READ_MAP, 0, 0, 0, CORWYSTAL_NO_SIZE},
+    {"how_full", "", a_map, HOW_FULL, 0, 0, 0, CORWYSTAL_PAGES},
+    {"how_full", "from the contents alone", a_map, HOW_FULL, 1, 0, 136 - 52, CORWYSTAL_PAGES},
+    {"how_full", "of the pool", a_map, HOW_FULL, 2, 0, 0, CORWYSTAL_NO_SPACE},
+    {"how_full", "from contents that are cut", a_map, HOW_FULL, 0, 0, 136 - 51, CORWYSTAL_NO_SIZE},
+    {"how_full", "from no byte", a_map, HOW_FULL, 0, 0, 136, CORWYSTAL_NO_SIZE},
+    {"how_full", "of no spaces", a_map_of_no_spaces, HOW_FULL, 0, 0, 0, CORWYSTAL_NO_SIZE},
+    {"how_full", "of too many spaces", a_map_of_65_spaces, HOW_FULL, 0, 0, (size_t)136 - CORWYSTAL_CONTENTS_BYTES(65), CORWYSTAL_NO_SIZE},
     {"sizes", "", never_started, SIZES, 2, 0, 0, 0},
     {"sizes", "refused", never_started, SIZES, 65, 0, 0, 0},
 };
@@ -384,6 +402,7 @@ static corwystal_answer answer_of(const struct scene *s) {
     case LIST: return corwystal_board_list(&lent, s->space, now.records, s->n);
     case WRITE_MAP: return corwystal_board_write_map(&lent, now.file, s->n);
     case READ_MAP: return corwystal_board_read_map(&lent, now.file, map_len - s->n);
+    case HOW_FULL: return corwystal_how_full(s->space, now.file, map_len - s->n);
     default: keep_needs(corwystal_sizes(s->space, 64, FRAMES, PAGE)); return (corwystal_answer){0, 0, 0};
     }
 }

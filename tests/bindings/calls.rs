@@ -1,6 +1,7 @@
-//! Every method of the Rust module, accepted and refused, on memory full of garbage.
+//! Every method and function of the Rust module, accepted and refused, on memory full of garbage.
 use corwystal::{
-    Looked, Memory, Needs, Pager, Refusal, Refused, Region, Sizes, Touched, index_words, map_bytes,
+    Looked, Memory, Needs, Pager, Refusal, Refused, Region, Sizes, Touched, contents_bytes,
+    how_full, index_words, map_bytes,
 };
 
 const SIZES: Sizes = Sizes {
@@ -179,6 +180,18 @@ fn main() {
     assert_eq!(pager.write_map(&mut short), Err(Refusal::NoMapRoom));
     assert!(short.iter().all(|&byte| byte == GARBAGE));
 
+    // How full each space is, from the contents alone or all of the file; without their last byte they tell nothing.
+    let contents = &map[..contents_bytes(2)];
+    for bytes in [contents, &map[..]] {
+        assert_eq!(how_full(0, bytes), Ok(1));
+        assert_eq!(how_full(1, bytes), Ok(2));
+        assert_eq!(how_full(2, bytes), Err(Refusal::NoSpace));
+        assert_eq!(how_full(u32::MAX, bytes), Err(Refusal::NoSpace));
+    }
+    assert_eq!(how_full(0, &contents[..51]), Err(Refusal::Size));
+    assert_eq!(how_full(2, &[]), Err(Refusal::Size));
+    assert_eq!(how_full(0, &[GARBAGE; 1_000]), Err(Refusal::Size));
+
     assert_eq!(pager.release(1, 0), Ok(2));
     assert_eq!(pager.release(1, 1), Err(Refusal::NoStart));
     assert_eq!(pager.free_count(), Ok(3));
@@ -235,7 +248,7 @@ fn main() {
         assert_eq!(said.number() as usize, number);
         assert!(!said.to_string().is_empty());
     }
-    println!("bindings: every method of the Rust module answers as it should");
+    println!("bindings: every method and function of the Rust module answers as it should");
 }
 
 const REFUSALS: [Refusal; 13] = [

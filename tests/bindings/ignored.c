@@ -25,6 +25,7 @@ void ignore(corwystal_board *b, corwystal_region *records, uint8_t *bytes) {
     corwystal_list(head, 0, records, 1, LENT(index), LENT(count));
     corwystal_write_map(head, LENT(index), LENT(count), LENT(table), LENT(stack), LENT(link), bytes, 1);
     corwystal_read_map(head, bytes, 1, TABLES, LENT(link));
+    corwystal_how_full(0, bytes, 1);
     corwystal_board_start(b, 1, 8, 3, 256);
     corwystal_board_mark(b, 0, 0);
     corwystal_board_drop(b, 0, 0);

@@ -1,9 +1,11 @@
 //! What the Rust module answers ignored, one a line: rustc must warn of each. Compiled, never run.
-use corwystal::{Pager, Refusal, Region, Sizes, index_words, map_bytes};
+use corwystal::{Pager, Refusal, Region, Sizes, contents_bytes, how_full, index_words, map_bytes};
 
 pub fn ignore(pager: &mut Pager<'_>, sizes: Sizes, bytes: &mut [u8], records: &mut [Region]) {
     index_words(8);
     map_bytes(1, 8, 3);
+    contents_bytes(1);
+    how_full(0, bytes);
     sizes.needs();
     Refusal::Size.number();
     pager.restart(sizes);

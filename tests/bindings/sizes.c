@@ -9,6 +9,8 @@ _Static_assert(CORWYSTAL_INDEX_WORDS(65) == 3, "T = 65 takes 3");
 _Static_assert(CORWYSTAL_INDEX_WORDS(4097) == 68, "T = 4,097 takes 68");
 _Static_assert(CORWYSTAL_INDEX_WORDS(262144) == 4161, "T = 262,144 takes 4,161");
 _Static_assert(CORWYSTAL_MAP_BYTES(64, 262144, 65536) == 3670812, "the longest map");
+_Static_assert(CORWYSTAL_CONTENTS_BYTES(1) == 40, "S, N, F, P and two rows");
+_Static_assert(CORWYSTAL_CONTENTS_BYTES(64) == 796, "the longest contents");
 _Static_assert(sizeof(corwystal_head) == 28, "seven 32-bit numbers");
 _Static_assert(sizeof(corwystal_answer) == 16, "two 32-bit numbers and one of 64 bits");
 _Static_assert(sizeof(corwystal_region) == 12, "three 32-bit numbers");

@@ -603,6 +603,13 @@ def noise(seed):
     return packed([draw.among([0, 1, 2, 3, 4, 7, 10, 13, 256, draw.below(30)]) for _ in range(draw.below(40))])
 
 
+def any_contents(draw):
+    """Contents of words that may be any, with an S within its limits or outside, and what may follow them."""
+    spaces = draw.among([0, 1, 2, 3, 8, 63, 64, 65, 66, draw.below(70), 256, WORD // 2, WORD - 1])
+    words = [draw.among([draw.below(9), draw.below(WORD), draw.among(NEAR)]) for _ in range(mapfile.contents_words(min(spaces, 70)) - 1 + draw.below(3))]
+    return packed([spaces] + words) + bytes(draw.below(4))
+
+
 # ---- all of them
 
 SMALL = [State((1, 1, 1, 256), [{0: [(0, 0)]}], []), State((2, 4, 3, 256), [{0: [], 2: [(3, 1), (2, 0)]}, {}], [2]),

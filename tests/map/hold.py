@@ -5,7 +5,10 @@
     hold.py each PROGRAM PLACES FRAMES    a process a file, its bytes on standard input; the program's tables have room for so many places and frames
     hold.py lines PROGRAM WORDS..         all files in one process, a line each: how long its index and six tables are, and the file in hex
     hold.py calls PROGRAM WORDS..         histories that begin with a map: a line is a reading, a call or `map`, its answer the session's but for index words
-    hold.py write FOLDER                  the lines, the answers to come and what each file is, as lines, answers and kinds; of the histories calls and called
+    hold.py full PROGRAM WORDS..          how full spaces are, by the fronts of files, all in one process: a line has the space and the bytes in hex
+    hold.py spaces PROGRAM                the same, a process each, with the space as its argument and the bytes on standard input; and bad use
+    hold.py write FOLDER                  the lines, the answers to come and what each file is, as lines, answers and kinds; of the histories calls and called;
+                                          of how full spaces are asked and told
 
 A program answers `no` and the refusal, or `ok`, a blank and in hex the map written back from its tables; in either way an LF and nothing else. A process
 a file takes some milliseconds, so `each` takes every twentieth of the files that are many; `lines` takes all, and lends more or less than is needed.
@@ -64,6 +67,14 @@ def near(data):
     yield from files.every_end(data)
 
 
+def fullness_wrong(data):
+    """A space whose contents tell another number than its body has pairs, "for any file W-202's reading accepts"; none."""
+    spaces = mapfile.take(data).state().spaces
+    pairs = [sum(len(pairs) for pairs in regions.values()) for regions in spaces]
+    wrong = [space for space, many in enumerate(pairs) if mapfile.how_full(data[:4 * mapfile.contents_words(len(spaces))], space) != f"pages {many}"]
+    return wrong[0] if wrong else None
+
+
 def hold_self():
     """Of the files near those of tiny states, also two words off, exactly those are accepted that are some state's, and each gives that state."""
     tried = 0
@@ -86,6 +97,8 @@ def hold_self():
         broken = mapfile.broken(data)
         if not broken and mapfile.write(mapfile.take(data).state()) != data:
             fail(f"{kind}, number {number}: read and written it is another file")
+        if not broken and (full := fullness_wrong(data)) is not None:
+            fail(f"{kind}, number {number}: space {full} has another number of pairs than its contents tell")
         if kind in dict(files.FAULTS) and not broken:
             fail(f"{kind}, number {number}: nothing is wrong with it")
         alone.update(broken if len(broken) == 1 else [])
@@ -97,9 +110,9 @@ def hold_self():
 
 # ---- a process a file
 
-def run(program, data):
+def run(program, data, *words):
     """What it answers, with its status if that isn't 0."""
-    ended = subprocess.run([program], input=data, stdout=subprocess.PIPE, stderr=subprocess.PIPE, timeout=60, check=False)
+    ended = subprocess.run([program, *words], input=data, stdout=subprocess.PIPE, stderr=subprocess.PIPE, timeout=60, check=False)
     said = ended.stdout.decode("ascii", "replace")
     return said if ended.returncode == 0 and not ended.stderr else f"status {ended.returncode} {ended.stderr[:80]!r} {said}"
 
@@ -179,6 +192,82 @@ def hold_calls(command):
     print(f"map: {os.path.basename(command[0])}: {HISTORIES} histories of {len(script)} lines, {kinds['read ok']} readings accepted in them")
 
 
+# ---- how full a space is
+
+def fronts(draw, data):
+    """All of a file, its contents alone, those cut short, or any front of it."""
+    spaces = int.from_bytes(data[:4], "little")
+    contents = 4 * mapfile.contents_words(spaces)
+    return data[:draw.among([len(data), contents, contents, contents - 1, contents - 4, contents + 1, contents + 4, draw.below(contents + 8), 3, 4, 0])]
+
+
+def any_space(draw, data):
+    spaces = int.from_bytes(data[:4], "little")
+    return draw.among([0, draw.below(spaces or 1), draw.below(spaces or 1), spaces - 1, spaces, spaces + 1, 63, 64, 2 ** 31, 2 ** 32 - 1]) % 2 ** 32
+
+
+def questions(share=1):
+    """Each with its kind, its number, a space and the front of a file: of all files, and of contents whose words are any, with any S."""
+    draw = files.Draw(9_900_000)
+    for kind, number, data in files.files(share):
+        if len(data) < 100_000:
+            yield kind, number, any_space(draw, data), fronts(draw, data)
+    for number in range(3_000 // share):
+        data = files.any_contents(draw)
+        yield "any contents", number, any_space(draw, data), fronts(draw, data)
+
+
+def full_of(data, space, tally):
+    """The line to come, counted by the group it belongs to."""
+    expected = mapfile.how_full(data, space)
+    tally["pages" if expected.startswith("pages") else expected] += 1
+    return expected
+
+
+def told_full(tally):
+    for group in ("pages", "no 1", "no 2"):
+        if not tally[group]:
+            fail(f"no question is answered `{group}`: draw others")
+    return f"{tally.total()} asked how full a space is, {tally['pages']} told, {tally['no 1']} refused with 1, {tally['no 2']} with 2"
+
+
+def hold_full(command):
+    asked = list(questions())
+    text = "".join(f"{space} {data.hex()}\n" for _, _, space, data in asked)
+    ended = subprocess.run(command + ["full"], input=text, stdout=subprocess.PIPE, text=True, timeout=600, check=False)
+    said, tally = ended.stdout.split("\n"), Counter()
+    for at, (kind, number, space, data) in enumerate(asked):
+        expected = full_of(data, space, tally)
+        if at >= len(said) or said[at] != expected:
+            differ(f"space {space} of {kind}", number, data, said[at] if at < len(said) else f"status {ended.returncode}", expected)
+    if ended.returncode or said[len(asked):] != [""]:
+        fail(f"{command[0]}: status {ended.returncode}, or more lines than questions")
+    print(f"map: {os.path.basename(command[0])}: {told_full(tally)}")
+
+
+# what mapread takes for no space: it says so on standard error and answers nothing
+BAD_USE = (["x"], [""], ["-1"], ["+1"], ["1 "], [" 1"], ["1x"], ["0x1"], ["1000000000"], ["0000000001"], ["1", "2"], ["1", ""])
+
+
+def hold_spaces(program):
+    tally = Counter()
+    asked = [question for question in questions(SHARE) if question[2] < 10 ** 9]
+    with ThreadPoolExecutor(os.cpu_count()) as pool:
+        for kind, number, space, data, said in pool.map(lambda q: (*q, run(program, q[3], str(q[2]))), asked):
+            expected = full_of(data, space, tally)
+            if said != expected + "\n":
+                differ(f"space {space} of {kind}", number, data, said, expected)
+    data = mapfile.write(files.largest())
+    for space in (0, 63, 64):
+        if run(program, data, f"{space:09}") != mapfile.how_full(data, space) + "\n":
+            fail(f"{program}: space {space} of the largest file: {run(program, data, f'{space:09}')!r}")
+    for words in BAD_USE:
+        ended = subprocess.run([program] + words, input=data[:40], stdout=subprocess.PIPE, stderr=subprocess.PIPE, timeout=60, check=False)
+        if ended.returncode or ended.stdout or not ended.stderr.startswith(b"mapread: usage: "):
+            fail(f"{program} {words}: status {ended.returncode}, {ended.stdout[:80]!r}, {ended.stderr[:80]!r}")
+    print(f"map: {os.path.basename(program)}: {told_full(tally)}; {len(BAD_USE)} ways of bad use are told")
+
+
 def write_lines(folder):
     with open(f"{folder}/lines", "w") as lines, open(f"{folder}/answers", "w") as answers, open(f"{folder}/kinds", "w") as kinds:
         for kind, number, _, line, expected in all_lines(Counter()):
@@ -189,6 +278,10 @@ def write_lines(folder):
         for _, line, answer in all_calls():
             print(line, file=calls)
             print(answer, file=called)
+    with open(f"{folder}/asked", "w") as asked, open(f"{folder}/told", "w") as told:
+        for _, _, space, data in questions():
+            print(space, data.hex(), file=asked)
+            print(mapfile.how_full(data, space), file=told)
 
 
 def main():
@@ -201,6 +294,10 @@ def main():
         hold_lines(words[1:])
     elif words[:1] == ["calls"] and len(words) > 1:
         hold_calls(words[1:])
+    elif words[:1] == ["full"] and len(words) > 1:
+        hold_full(words[1:])
+    elif words[:1] == ["spaces"] and len(words) == 2:
+        hold_spaces(words[1])
     elif words[:1] == ["write"] and len(words) == 2:
         write_lines(words[1])
     else:

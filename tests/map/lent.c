@@ -5,6 +5,8 @@
  * behind what its sizes need, whether every page of the file is found with its frame and no other, and what a writing does that is lent too
  * little or too much; what is wrong then is told on standard error, with status 1.
  * `lent bytes PLACES FRAMES` reads one file's bytes instead, into tables for so many places and frames.
+ * `lent full` asks how full spaces are: a line has a space and the front of a file in hex, its answer is `pages` and the number, or `no` and the
+ * refusal; the bytes must stay.
  * `lent calls PLACES FRAMES` plays lines on such tables, which stay from line to line: `read` and a file in hex, mark, drop, touch, look and
  * release with space and page, `map`. A new page must be zeros, and no other byte of the RAM may change.
  *
@@ -18,6 +20,7 @@
 #include "../../bench/checked.h"
 #define read_map checked_read_map
 #define write_map checked_write_map
+#define how_full checked_how_full
 #define look checked_look
 #define mark checked_mark
 #define unmark checked_drop
@@ -27,6 +30,7 @@
 #include "../../bindings/c/corwystal.h"
 #define read_map corwystal_read_map
 #define write_map corwystal_write_map
+#define how_full corwystal_how_full
 #define look corwystal_look
 #define mark corwystal_mark
 #define unmark corwystal_drop
@@ -227,33 +231,6 @@ static void answer_file(const size_t len[BUFFERS], const uint8_t *bytes, size_t 
     drop(&before);
 }
 
-static int digit(char c) { return c <= '9' ? c - '0' : c - 'a' + 10; }
-
-static void lines(void)
-{
-    char *line = NULL;
-    size_t room = 0;
-    ssize_t read;
-    while ((read = getline(&line, &room, stdin)) > 0) {
-        size_t len[BUFFERS], n = 0;
-        char *at = line;
-        for (int b = 0; b < BUFFERS; b++)
-            len[b] = strtoull(at, &at, 10);
-        uint8_t *bytes = (uint8_t *)line;
-        for (at++; at + 1 < line + read; at += 2)
-            bytes[n++] = (uint8_t)(digit(at[0]) * 16 + digit(at[1]));
-        answer_file(len, bytes, n);
-        /* told before the next one ends the program */
-        fflush(stdout);
-    }
-    free(line);
-}
-
-/* ---- histories */
-
-static uint8_t *ram, *ram_before;
-static size_t ram_len;
-
 /* What a line's call answers, without index words. */
 static void tell(corwystal_answer a)
 {
@@ -266,6 +243,54 @@ static void tell(corwystal_answer a)
     else
         printf("kind %u\n", (unsigned)a.kind);
 }
+
+static int digit(char c) { return c <= '9' ? c - '0' : c - 'a' + 10; }
+
+/* The bytes that stand in hex from a place of the line to its end, put at the line's front; how many there are. */
+static size_t unhex(char *line, const char *at, const char *end)
+{
+    size_t n = 0;
+    for (; at + 1 < end; at += 2)
+        ((uint8_t *)line)[n++] = (uint8_t)(digit(at[0]) * 16 + digit(at[1]));
+    return n;
+}
+
+static void answer_fullness(uint32_t space, const uint8_t *bytes, size_t n)
+{
+    uint8_t *contents = memcpy(block(n), bytes, n);
+    corwystal_answer a = how_full(space, contents, n);
+    if (memcmp(contents, bytes, n) != 0)
+        fail("the contents were changed");
+    free(contents);
+    tell(a);
+}
+
+/* Each line of standard input: numbers, a blank, bytes in hex. */
+static void lines(int numbers)
+{
+    char *line = NULL;
+    size_t room = 0;
+    ssize_t read;
+    while ((read = getline(&line, &room, stdin)) > 0) {
+        size_t number[BUFFERS];
+        char *at = line;
+        for (int b = 0; b < numbers; b++)
+            number[b] = strtoull(at, &at, 10);
+        size_t n = unhex(line, at + 1, line + read);
+        if (numbers == BUFFERS)
+            answer_file(number, (uint8_t *)line, n);
+        else
+            answer_fullness((uint32_t)number[0], (uint8_t *)line, n);
+        /* told before the next one ends the program */
+        fflush(stdout);
+    }
+    free(line);
+}
+
+/* ---- histories */
+
+static uint8_t *ram, *ram_before;
+static size_t ram_len;
 
 /* Of the RAM only a new page's frame has changed, and it is zeros; it is littered then, as if it had been written. */
 static void check_ram(const memory *m, corwystal_answer a)
@@ -288,11 +313,8 @@ static void play(memory *m, char *line, size_t length)
     unsigned space = 0, page = 0;
     char name[16];
     if (strncmp(line, "read ", 5) == 0) {
-        uint8_t *bytes = (uint8_t *)line;
-        size_t n = 0;
-        for (size_t k = 5; k + 1 < length; k += 2)
-            bytes[n++] = (uint8_t)(digit(line[k]) * 16 + digit(line[k + 1]));
-        uint8_t *file = memcpy(block(n), bytes, n);
+        size_t n = unhex(line, line + 5, line + length);
+        uint8_t *file = memcpy(block(n), line, n);
         tell(read_map(&m->head, file, n, LENT(m, INDEX), LENT(m, COUNT), LENT(m, TABLE), LENT(m, HELPER), LENT(m, STACK), LENT(m, CACHE),
                       LENT(m, LINK)));
         free(file);
@@ -346,7 +368,7 @@ static void calls(const size_t len[BUFFERS])
 int main(int argc, char **argv)
 {
     if (argc != 4) {
-        lines();
+        lines(argc == 2 && strcmp(argv[1], "full") == 0 ? 1 : BUFFERS);
         return 0;
     }
     size_t places = strtoull(argv[2], NULL, 10), frames = strtoull(argv[3], NULL, 10);

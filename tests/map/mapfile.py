@@ -1,4 +1,4 @@
-"""Map files read and written, from document 02's request W-202 alone, whose words stand in quotation marks; document 01 has the rules and limits.
+"""Map files read and written, from document 02's requests W-202 and W-203 alone, whose words stand in quotation marks; document 01 has the rules and limits.
 
 A file is accepted if no rule of RULES is broken; the rules are looked at one by one, on a file taken apart as far as it goes, so that files.py can make
 files that break one and no other. Numbers are Python's, and nothing wraps.
@@ -215,3 +215,16 @@ def line(data, lent):
     """What the program mapread is to write for a file, without its LF: the refusal, or the map written back."""
     said = answer(data, lent)
     return f"no {said}" if isinstance(said, int) else "ok " + write(said).hex()
+
+
+# ---- from the contents alone
+
+def how_full(data, space):
+    """W-203 on the first bytes of a file: `pages` and "the space's third word as it stands", or `no` and the refusal: "1 for contents cut short or S
+    outside its limits, 2 for the space"."""
+    words = words_of(data)
+    if not words or not 1 <= words[0] <= MOST_SPACES or len(words) < contents_words(words[0]):
+        return "no 1"
+    if space >= words[0]:
+        return "no 2"
+    return f"pages {words[4 + 3 * space + 2]}"

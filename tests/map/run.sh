@@ -1,5 +1,5 @@
 #!/usr/bin/env bash
-# Holds readers and writers of map files to mapfile.py, which is written from document 02's W-202 alone, on the files of files.py:
+# Holds readers and writers of map files to mapfile.py, which is written from document 02's W-202 and W-203 alone, on the files of files.py:
 #     tests/map/run.sh [PROGRAM]    mapfile.py itself, the program mapread and the library through its C entrance (lent.c)
 #     tests/map/run.sh by-hand      the C by hand that the calls are measured beside, bench/checked.c, under an address checker
 #     tests/map/run.sh broken       the files themselves, on readers and writers that are wrong in one way each
@@ -27,10 +27,9 @@ by_hand() { # OUT SOURCE WORDS..
     gcc -std=gnu11 -Wall -Wextra -I bench -DBY_HAND "${@:3}" -o "$made/$1" "$here/lent.c" "$2"
 }
 
-# Some words of the C by hand are others: the program must end with a fault of its own, or answer a file otherwise.
-wrong() { # NAME OLD NEW
-    local at
-    python3 - "$made/checked.c" "$2" "$3" << 'END' || fail "bench/checked.c has no such words once: $2"
+# The C by hand with other words.
+other_words() { # OLD NEW
+    python3 - "$made/checked.c" "$1" "$2" << 'END' || fail "bench/checked.c has no such words once: $1"
 import sys
 text = open("bench/checked.c", encoding="utf-8").read()
 if text.count(sys.argv[2]) != 1:
@@ -38,6 +37,12 @@ if text.count(sys.argv[2]) != 1:
 open(sys.argv[1], "w", encoding="utf-8").write(text.replace(sys.argv[2], sys.argv[3]))
 END
     by_hand wrong "$made/checked.c" -O1 -w
+}
+
+# Some words of the C by hand are others: the program must end with a fault of its own, or answer a file otherwise.
+wrong() { # NAME OLD NEW
+    local at
+    other_words "$2" "$3"
     if (timeout 60 "$made/wrong" < "$made/lines" > "$made/said") 2> "$made/told" && cmp -s "$made/said" "$made/answers"; then
         (timeout 60 "$made/wrong" calls "$places" "$frames" < "$made/calls" > "$made/said") 2> "$made/told" && cmp -s "$made/said" "$made/called" \
             && fail "not found: $1"
@@ -51,9 +56,27 @@ END
     found=$((found + 1))
 }
 
+# The same of how full a space is: a question is answered otherwise.
+wrong_fullness() { # NAME OLD NEW
+    other_words "$2" "$3"
+    (timeout 60 "$made/wrong" full < "$made/asked" > "$made/said") 2> /dev/null && cmp -s "$made/said" "$made/told" && fail "not found: $1"
+    echo "$1 -- $(diff "$made/said" "$made/told" | grep -c '^<') questions"
+    found=$((found + 1))
+}
+
 broken() {
     hold write "$made"
     found=0
+    wrong_fullness "the second word is told" "word_at(contents, 3 * (size_t)space + 6)" "word_at(contents, 3 * (size_t)space + 5)"
+    wrong_fullness "the next space's is told" "word_at(contents, 3 * (size_t)space + 6)" "word_at(contents, 3 * (size_t)space + 9)"
+    wrong_fullness "the pool is a space" "if (space >= spaces)" "if (space > spaces)"
+    wrong_fullness "contents may lack a byte" "contents_len < 4 * contents_words(spaces)" "contents_len + 1 < 4 * contents_words(spaces)"
+    wrong_fullness "all of the file is asked for" "contents_len < 4 * contents_words(spaces)" "contents_len <= 4 * contents_words(spaces)"
+    wrong_fullness "65 spaces" "spaces > CORWYSTAL_MOST_SPACES || contents" "spaces > CORWYSTAL_MOST_SPACES + 1 || contents"
+    wrong_fullness "no spaces" "spaces == 0 || spaces > CORWYSTAL_MOST_SPACES || contents" "spaces > CORWYSTAL_MOST_SPACES || contents"
+    wrong_fullness "2 before 1" "    uint32_t spaces = contents_len < 4 ? 0 : word_at(contents, 0);" "    uint32_t spaces = contents_len < 4 ? 0 : word_at(contents, 0);
+    if (spaces != 0 && space >= spaces)
+        return SAY(CORWYSTAL_NO_SPACE, 0, 0);"
     wrong "a page may stand twice" "!adds_place(seen, w, lo + page))" "0)"
     wrong "a page may stand twice behind the first window" "if (!adds_place(seen, w, lo + word_at(file, k)))" "if (0)"
     wrong "a frame may stand twice" "!adds(held, frame) || !adds_place" "(adds(held, frame), 0) || !adds_place"
@@ -91,7 +114,7 @@ broken() {
     wrong "counts that were there stay" "    memset(count, 0, t * sizeof *count);" ""
     wrong "starts that were there stay" "    memset(index, 0, index_words(t) * sizeof *index);" ""
     wrong "the pool is read with fresh frames behind it" "0, 0, frames};" "0, 0, 0};"
-    echo "map: $found wrong readers and writers found"
+    echo "map: $found wrong readers, writers and answers of how full found"
 }
 
 case ${1:-gate} in
@@ -99,6 +122,7 @@ by-hand)
     by_hand by_hand bench/checked.c -O1 -g -fsanitize=address,undefined
     hold lines "$made/by_hand"
     hold calls "$made/by_hand"
+    hold full "$made/by_hand"
     ;;
 broken) broken ;;
 *)
@@ -107,8 +131,10 @@ broken) broken ;;
     hold self
     # shellcheck disable=SC2086 # two words
     hold each "$program" $room
+    hold spaces "$program"
     gcc -std=gnu11 -O2 -Wall -Wextra -o "$made/lent" "$here/lent.c" target/bindings/libcorwystal.a
     hold lines "$made/lent"
     hold calls "$made/lent"
+    hold full "$made/lent"
     ;;
 esac

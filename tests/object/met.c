@@ -120,6 +120,15 @@ static void full_map(void) { map_of(full); }
 
 static void three_map(void) { map_of(three); }
 
+/* Contents and nothing else; nothing at all; and another number of spaces in them. */
+static void contents(void) { pages_map(), file_len = CORWYSTAL_CONTENTS_BYTES(1); }
+
+static void nothing(void) { pages_map(), file_len = 0; }
+
+static void no_spaces(void) { pages_map(), file[0] = 0; }
+
+static void many_spaces(void) { pages_map(), file[0] = 65, file_len = CORWYSTAL_CONTENTS_BYTES(65); }
+
 /* Less than contents; less than all of it; more; and the pool's last frame is one that a page holds. */
 static void no_contents(void) { pages_map(), file_len = 39; }
 
@@ -232,6 +241,13 @@ static void short_map(void) { pages_map(), b.count_len--; }
     IS(read_map, too long, long_map, CORWYSTAL_NO_MAP, corwystal_board_read_map(&b, file, file_len))                                           \
     IS(read_map, a frame twice, twice_map, CORWYSTAL_NO_MAP, corwystal_board_read_map(&b, file, file_len))                                     \
     IS(read_map, too short, short_map, CORWYSTAL_NO_SIZE, corwystal_board_read_map(&b, file, file_len))                                        \
+    IS(how_full, the file, pages_map, CORWYSTAL_PAGES, corwystal_how_full(0, file, file_len))                                                  \
+    IS(how_full, its contents, contents, CORWYSTAL_PAGES, corwystal_how_full(0, file, file_len))                                               \
+    IS(how_full, no space, contents, CORWYSTAL_NO_SPACE, corwystal_how_full(1, file, file_len))                                                \
+    IS(how_full, cut, no_contents, CORWYSTAL_NO_SIZE, corwystal_how_full(0, file, file_len))                                                   \
+    IS(how_full, no byte, nothing, CORWYSTAL_NO_SIZE, corwystal_how_full(0, file, file_len))                                                   \
+    IS(how_full, no spaces, no_spaces, CORWYSTAL_NO_SIZE, corwystal_how_full(0, file, file_len))                                               \
+    IS(how_full, too many spaces, many_spaces, CORWYSTAL_NO_SIZE, corwystal_how_full(0, file, file_len))                                       \
     IS(sizes, accepted, empty, 0, sizes(1, PLACES, FRAMES, PAGE))                                                                              \
     IS(sizes, small, empty, 0, sizes(1, 64, FRAMES, PAGE))                                                                                     \
     IS(sizes, no size, empty, CORWYSTAL_NO_SIZE, sizes(1, PLACES, FRAMES, PAGE + 1))

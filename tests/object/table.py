@@ -30,6 +30,7 @@ REMARKS = {
     "list": "two finds for each region: too long to hold interrupts off",
     "write_map": "{three pages} for a region with three pages and {frames} frames in the largest space: too long to hold interrupts off",
     "read_map": "{three pages} for that map, and a `memset` of counts, index and its own set of numbers: too long to hold interrupts off",
+    "how_full": "",
     "sizes": "",
 }
 HEAD = ["Call", "Stack at most", "Instructions at most", "Stack met", "Instructions met", ""]

@@ -23,6 +23,8 @@ ghost use Rattle.promise.specs.Did.{Did};
 ghost use Rattle.promise.specs.Filled.{ReadDid, RecordsDid, recordsFilled, MapDid, bytesFilled};
 ghost use Rattle.machine.specs.Machine.{sizes};
 ghost use Rattle.sizing.specs.Needed.{numbersOf, neededFor};
+ghost use Rattle.machine.specs.Fullness.{fullnessOf};
+ghost use Rattle.requests.specs.Codes.{encoded, numbersOf as answerNumbers};
 ghost use Rattle.corwystal.specs.Encodes.{Encodes};
 
 // What a start of these sizes and the calls after it must be lent.
@@ -390,4 +392,12 @@ pub extern "C" fn corwystal_read_map(
         cache,
         link,
     ))
+}
+
+// How full a space is, from the contents of a map file alone, whatever follows them: its third word as it stands.
+#[no_mangle]
+pub extern "C" fn corwystal_how_full(space: u32, contents: &[u8]) -> Answer
+    ensures { λ r. ⌜ answerNumbers r ≡ encoded (fullnessOf (now (contents .entry)) space) ⌝ }
+{
+    requests::encode_fullness(contents::how_full(space, contents))
 }

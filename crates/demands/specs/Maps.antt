@@ -1,14 +1,15 @@
--- W-202 of the pager's own calls: which files are read, a written map read back, and a map that was read written again.
+-- W-202 of the pager's own calls: which files are read, a written map read back, and a map that was read written again; W-203: what a written map tells.
 use mathlib.Core.Path.{_≡_}
 use mathlib.Core.List.{List}
-use Prim.Native.Nat.{ℕ, _≤_, _<_}
+use Prim.Native.Nat.{ℕ, _*_, _≤_, _<_}
 use lib.ListN.{length, take}
 use Rattle.sequence.specs.Lists.{Each}
 use Rattle.words.specs.Words.{wordsIn}
-use Rattle.machine.specs.Machine.{State, withRam, everyTable, writeMap, readMap, Answer, done, mapFile, refused}
+use Rattle.machine.specs.Machine.{State, withRam, everyTable, writeMap, readMap, Answer, done, pages, mapFile, refused}
 use Rattle.machine.specs.Answers.{mapWrittenSays}
-use Rattle.machine.specs.Claims.{Described}
-use Rattle.machine.specs.Map.{sizesIn}
+use Rattle.machine.specs.Claims.{residentIn, Described}
+use Rattle.machine.specs.Map.{firstBody, sizesIn}
+use Rattle.machine.specs.Fullness.{fullnessOf}
 use Rattle.machine.specs.declared.MapWritten.{MapWritten}
 use Rattle.machine.specs.declared.MapWritten.the-variants as written-is
 use Rattle.memory.specs.Memory.{Memory, lengths}
@@ -46,3 +47,9 @@ ReadThenWrite =
     (file : List ℕ) → Each 0 (λ b. b < 256) file → (k k′ : Memory) → Did (readMap file) k done k′
     → (r : MapWritten) (buffer buffer′ : List ℕ) → length file ≤ length buffer → MapDid k′ r buffer buffer′
     → mapWrittenSays r (take (bytesFilled r) buffer′) ≡ mapFile file
+
+-- W-203: whoever has the contents of a written map, and whatever else of it, is told each space's resident pages
+abbrev pub WrittenFullness : Type 0
+WrittenFullness =
+    (m : State) (k : Memory) → Holds m k → (n : ℕ) (buffer buffer′ : List ℕ) → MapDid k (written-is.Bytes n) buffer buffer′
+    → (got : ℕ) → 4 * firstBody (m .sizes .spaces) ≤ got → (i : ℕ) → i < m .sizes .spaces → fullnessOf (take got (take n buffer′)) i ≡ pages (residentIn m i)

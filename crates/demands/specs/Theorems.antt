@@ -1,16 +1,20 @@
--- The three demands, W-202's claims, and what holds when bytes reach the RAM from outside, proved.
+-- The three demands, the claims of W-202 and W-203, and what holds when bytes reach the RAM from outside, proved.
 use mathlib.Core.Path.{refl, sym, ap, _∙_, subst}
 use mathlib.Core.List.{List, []}
-use Prim.Native.Nat.{ℕ}
+use Prim.Native.Nat.{ℕ, _*_, _≤_}
 use lib.ListN.{length, getD, take}
-use Rattle.machine.specs.Machine.{Sizes, State, begun, Lent, everyTable, readMap, Call, translate, Answer, at, withRam, recordsOf, answers, afterAll}
+use Rattle.words.specs.Words.{wordsIn}
+use Rattle.machine.specs.Machine.{Sizes, sizesOk, State, begun, Lent, everyTable, readMap, Call, translate, Answer, at, withRam, recordsOf, answers, afterAll}
 use Rattle.machine.specs.Claims.{Same}
 use Rattle.machine.specs.Laws.Holders.{one-holder, pool-and-resident, same-byte}
 use Rattle.machine.specs.Laws.Records.{listed-pages}
 use Rattle.machine.specs.Laws.Bytes.{read-there}
 use Rattle.machine.specs.Laws.Hidden.{ram-unseen, start-bare}
-use Rattle.machine.specs.Map.{mapOf}
-use Rattle.machine.specs.MapTheorems.{described-ram, described-ok, described-sizes, write-then-read as written-read}
+use Rattle.machine.specs.Laws.Sizes.{both}
+use Rattle.machine.specs.Map.{firstBody, mapOf, sizesIn}
+use Rattle.machine.specs.Fullness.{fullnessOf}
+use Rattle.machine.specs.MapTheorems.{described-ram, described-ok, described-sizes, file-contents, write-then-read as written-read}
+use Rattle.machine.specs.MapTheorems.{fullness-resident, fullness-cut}
 use Rattle.memory.specs.Memory.{Memory, sizesOf, lengths}
 use Rattle.promise.specs.Holds.{Holds}
 use Rattle.promise.specs.Did.{Did}
@@ -18,7 +22,7 @@ use Rattle.laws.specs.Refusals.{Long, refused-still}
 use Rattle.laws.specs.Located.{translate-asks, translate-next, translate-resident}
 use Rattle.demands.specs.History.{calls}
 use Rattle.demands.specs.Demands.{Demand1, Demand1Read, Demand1List, machineAt, Demand2, Demand2Ram, Demand3For}
-use Rattle.demands.specs.Maps.{Demand1Map, ReadsExactly, WriteThenRead, ReadThenWrite}
+use Rattle.demands.specs.Maps.{Demand1Map, ReadsExactly, WriteThenRead, ReadThenWrite, WrittenFullness}
 use Rattle.demands.specs.Laws.Run.{begins-holding, sequence-follows}
 use Rattle.demands.specs.Laws.Rooms.{run-rooms, run-bare}
 use Rattle.demands.specs.Laws.Next.{free-next, list-next, read-asks}
@@ -115,3 +119,15 @@ write-then-read m k H n buffer buffer′ w l a l′ long d =
 
 pub read-then-write : ReadThenWrite
 read-then-write file bytes k k′ d r buffer buffer′ fits w = written-again file bytes k k′ d (length buffer) _ fits (w .did)
+
+-- ---- W-203
+
+pub written-fullness : WrittenFullness
+written-fullness m k H n buffer buffer′ w got long i below =
+    let file = map-is m (length buffer) (lengths k) (take n buffer′) (w .did .honest m H .answer-is) in
+    let is = written-read m (H .sound) in
+    let whole = both (sizesOk (sizesIn (wordsIn (mapOf m)))) _ (file-contents (mapOf m) (described-ok (m .ram) (mapOf m) m is)) .1 in
+    let z = described-sizes (m .ram) (mapOf m) m is in
+    ap (λ (f : List ℕ). fullnessOf (take got f) i) file
+    ∙ fullness-cut (mapOf m) whole got (subst (λ (y : Sizes). 4 * firstBody (y .spaces) ≤ got) z long) i
+    ∙ fullness-resident (mapOf m) (m .ram) m (record { sound = H .sound; ram-is = refl; file-is = refl }) i below

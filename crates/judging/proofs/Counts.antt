@@ -8,11 +8,11 @@ use borrow.Author.Tests.{eq-eqb, ne-eqb}
 use lib.Dec.{eqb}
 use lib.ListN.{length, getD, length-append}
 use lib.Seq.{slice, length-slice}
-use Rattle.machine.specs.Map.{Block, blocksIn, partIn, wholeFrom}
+use Rattle.machine.specs.Map.{Block, blocksIn, rowCount, partIn, wholeFrom}
 use Rattle.machine.specs.MapRules.{entriesOf}
 use Rattle.walking.specs.Laws.{nextAt, countAt, entriesAt, length-entries}
 use Rattle.walking.specs.Regions.{region-fits, blocks-next, whole-next, blocks-end}
-use Rattle.judging.specs.Contents.{rowCount, countsFrom}
+use Rattle.judging.specs.Contents.{countsFrom}
 
 -- ---- a body
 

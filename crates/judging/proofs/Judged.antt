@@ -11,12 +11,12 @@ use Rattle.places.specs.Places.{allNew}
 use Rattle.words.specs.Words.{wordsIn}
 use Rattle.words.specs.Laws.{length-words, words-long}
 use Rattle.machine.specs.State.{sizesOk}
-use Rattle.machine.specs.Map.{Entry, firstBody, fileWords, blocksIn, sizesIn, partIn}
+use Rattle.machine.specs.Map.{Entry, firstBody, fileWords, blocksIn, sizesIn, rowCount, partIn}
 use Rattle.machine.specs.MapRules.{entryFrames, entriesOf, bodiesFine, heldFrames, partsIn, same, rulesOk, contentsOk}
 use Rattle.machine.specs.Laws.Sizes.{both, Fit, fit}
 use Rattle.walking.specs.Rows.{Bodied}
 use Rattle.bodies.specs.Laws.{fine-bodied}
-use Rattle.judging.specs.Contents.{rowCount, Sized, rowsTile, countsFrom, toldFrom}
+use Rattle.judging.specs.Contents.{Sized, rowsTile, countsFrom, toldFrom}
 use Rattle.judging.specs.Tiles.{tiles-rowed}
 use Rattle.judging.specs.Same.{same-short, same-rows}
 

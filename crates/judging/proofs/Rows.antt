@@ -7,8 +7,8 @@ use native.Mathlib.Omega.{arith}
 use borrow.Author.Tests.{eq-eqb, ne-eqb}
 use lib.Dec.{eqb}
 use lib.ListN.{length}
-use Rattle.machine.specs.Map.{firstBody}
-use Rattle.judging.specs.Contents.{rowStart, rowLength, rowCount, tilesFrom, rowsTile, toldFrom}
+use Rattle.machine.specs.Map.{firstBody, rowStart, rowLength, rowCount}
+use Rattle.judging.specs.Contents.{tilesFrom, rowsTile, toldFrom}
 
 -- ---- rows that tile
 

@@ -2,16 +2,15 @@
 use mathlib.Core.Path.{_≡_, refl, sym, ap, ap₂, _∙_}
 use mathlib.Core.Bool.{Bool, true, false, _&&_, and-false}
 use mathlib.Core.List.{List}
-use Prim.Native.Nat.{ℕ, _*_, _^_, _≤_, _<_}
+use Prim.Native.Nat.{ℕ, _*_, _^_, _<_}
 use native.Mathlib.Omega.{arith}
-use borrow.Author.Tests.{le-leb, lt-leb}
-use lib.Dec.{leb}
+use borrow.Author.Tests.{lt-leb}
 use lib.ListN.{length, getD}
 use Rattle.words.specs.Words.{wordsIn}
 use Rattle.machine.specs.Machine.{sizes, sizesOk}
 use Rattle.machine.specs.Answers.{pageSizeSays, pageSizeFor}
-use Rattle.machine.specs.Map.{firstBody, sizesIn}
-use Rattle.machine.specs.MapRules.{contentsOk}
+use Rattle.machine.specs.Map.{sizesIn}
+use Rattle.machine.specs.MapRules.{contentsWords, contentsWhole, contentsOk}
 use Rattle.machine.specs.Laws.PageSizes.{none-of, bytes-of}
 use Rattle.machine.specs.declared.PageSize.{PageSize}
 use Rattle.machine.specs.declared.MadeSize.{MadeSize}
@@ -22,8 +21,12 @@ use Rattle.judging.specs.Contents.{ContentsAre}
 use Rattle.judging.specs.declared.Contents.the-variants.{Sizes}
 
 module _ (file : List ℕ) where
-  pub cut-short : length file < 4 * firstBody (getD (wordsIn file) 0 0) → contentsOk file ≡ false
-  cut-short h = rw (lt-leb (4 * firstBody (getD (wordsIn file) 0 0)) (length file) h, and-false)
+  pub cut-short : contentsWhole file ≡ false → contentsOk file ≡ false
+  cut-short e = rw (e, and-false)
+
+  -- without the words of the sizes
+  pub no-sizes : length file < 16 → contentsOk file ≡ false
+  no-sizes h = cut-short (lt-leb (4 * contentsWords (wordsIn file)) (length file) (omega arith))
 
   -- the four words read, and the page size made of the last
   module _ (s n f b : ℕ) (s-is : s ≡ getD (wordsIn file) 0 0) (n-is : n ≡ getD (wordsIn file) 1 0) (f-is : f ≡ getD (wordsIn file) 2 0)
@@ -42,9 +45,7 @@ module _ (file : List ℕ) where
           ∙ ap₂ (λ (x y : ℕ). sizes (getD (wordsIn file) 0 0) (getD (wordsIn file) 1 0) x y) f-is (bytes-of b made of p e ∙ b-is)
 
       pub outside-limits : sizesOk (sizesOf head) ≡ false → contentsOk file ≡ false
-      outside-limits fails = ap (λ (t : Bool). t && leb (4 * firstBody (getD (wordsIn file) 0 0)) (length file)) (ap sizesOk (sym sizes-are) ∙ fails)
+      outside-limits fails = ap (λ (t : Bool). t && contentsWhole file) (ap sizesOk (sym sizes-are) ∙ fails)
 
-      pub sizes-told : sizesOk (sizesOf head) ≡ true → 4 * firstBody s ≤ length file → ContentsAre file (Sizes head)
-      sizes-told passes long =
-          let fits = le-leb (4 * firstBody (getD (wordsIn file) 0 0)) (length file) (omega (arith, long, s-is)) in
-          (rw (ap sizesOk (sym sizes-are) ∙ passes, fits) refl, sizes-are, refl, refl, refl)
+      pub sizes-told : sizesOk (sizesOf head) ≡ true → contentsWhole file ≡ true → ContentsAre file (Sizes head)
+      sizes-told passes whole = (rw (ap sizesOk (sym sizes-are) ∙ passes, whole) refl, sizes-are, refl, refl, refl)

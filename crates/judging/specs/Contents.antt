@@ -4,25 +4,15 @@ use mathlib.Core.Bool.{Bool, true, false, _&&_}
 use mathlib.Core.List.{List}
 use Prim.Native.Nat.{ℕ, zero, suc, _+_, _*_}
 use lib.Dec.{eqb}
-use lib.ListN.{length, getD}
+use lib.ListN.{length}
 use Rattle.words.specs.Words.{wordsIn}
-use Rattle.machine.specs.Map.{firstBody, sizesIn, partIn, blocksIn}
+use Rattle.machine.specs.Map.{firstBody, sizesIn, rowStart, rowLength, rowCount, partIn, blocksIn}
 use Rattle.machine.specs.MapRules.{entriesOf, contentsOk}
 use Rattle.memory.specs.Memory.{sizesOf}
 use Rattle.judging.specs.declared.Contents.{Contents}
 use Rattle.judging.specs.declared.Contents.the-variants.{Sizes, Bad}
 
 -- ---- rows
-
--- the three words of row i: where its body starts, its length in words, and the number of its pairs, or for the pool of its frames
-abbrev pub rowStart : List ℕ → ℕ → ℕ
-rowStart ws i = getD ws (4 + 3 * i) 0
-
-abbrev pub rowLength : List ℕ → ℕ → ℕ
-rowLength ws i = getD ws (4 + (3 * i + 1)) 0
-
-abbrev pub rowCount : List ℕ → ℕ → ℕ
-rowCount ws i = getD ws (4 + (3 * i + 2)) 0
 
 -- "Bodies follow in order with no gaps": those of n rows from number i on, the first from word `at` on, the last to before word `end`
 unfoldable pub tilesFrom : List ℕ → ℕ → ℕ → ℕ → ℕ → Bool

@@ -9,12 +9,12 @@ use lib.Dec.{eqb}
 use lib.ListN.{length, getD, take, drop, length-append, length-drop, take-append-drop, drop-of-length-le}
 use lib.Seq.{drop-cons, drop-drop, length-take-le, getD-drop}
 use Rattle.sequence.specs.Lists.{tabulate}
-use Rattle.machine.specs.Map.{Part, firstBody, rows, bodies, fileWords, blocksIn, sizesIn, partIn}
+use Rattle.machine.specs.Map.{Part, firstBody, rows, bodies, fileWords, blocksIn, sizesIn, rowStart, rowLength, rowCount, partIn}
 use Rattle.machine.specs.MapRules.{entriesOf, spaceIn, partsIn, same}
 use Rattle.machine.specs.Laws.Sizes.{both}
 use Rattle.machine.specs.Laws.Map.Contents.{length-rows}
 use Rattle.machine.specs.Laws.Map.Rules.{is-same, same-is}
-use Rattle.judging.specs.Contents.{rowStart, rowLength, rowCount, tilesFrom, rowsTile, countsFrom}
+use Rattle.judging.specs.Contents.{tilesFrom, rowsTile, countsFrom}
 use Rattle.judging.specs.Tiles.{Tile, tile, tiles-end}
 
 -- two tests that hold together

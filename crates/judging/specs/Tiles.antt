@@ -10,10 +10,10 @@ use lib.Dec.{eqb}
 use lib.ListN.{length}
 use Rattle.words.specs.Words.{wordsIn}
 use Rattle.words.specs.Laws.{length-words}
-use Rattle.machine.specs.Map.{firstBody}
+use Rattle.machine.specs.Map.{firstBody, rowStart, rowLength}
 use Rattle.machine.specs.Laws.Sizes.{both}
 use Rattle.walking.specs.Rows.{Rowed}
-use Rattle.judging.specs.Contents.{rowStart, rowLength, tilesFrom, rowsTile}
+use Rattle.judging.specs.Contents.{tilesFrom, rowsTile}
 
 -- what rows that tile say of the first
 pub record Tile (ws : List ℕ) (i n at end : ℕ) : Type 0 where

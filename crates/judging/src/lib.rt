@@ -3,6 +3,8 @@ use bodies::bodies_fine;
 use bodies::frames_fine;
 use checks::sizes_ok;
 use checks::wide;
+use contents::count_at;
+use contents::is_whole;
 use machine::MadeSize;
 use machine::PageSize;
 use memory::Head;
@@ -11,14 +13,14 @@ use words::index_at;
 use words::word_at;
 ghost use mathlib.Core.Path.{_≡_};
 ghost use mathlib.Core.Bool.{true};
-ghost use Prim.Native.Nat.{suc, _*_, _≤_, _<_};
+ghost use Prim.Native.Nat.{suc, _*_, _≤_};
 ghost use lib.ListN.{length};
 ghost use lib.Seq.{slice};
 ghost use Rattle.words.specs.Words.{wordsIn};
 ghost use Rattle.machine.specs.Map.{firstBody, blocksIn, wholeFrom};
 ghost use Rattle.machine.specs.MapRules.{entriesOf, rulesOk, fileOk};
 ghost use Rattle.walking.specs.Rows.{Bodied};
-ghost use Rattle.judging.specs.Contents.{ContentsAre, Sized, rowCount, rowsTile, countsFrom, toldFrom};
+ghost use Rattle.judging.specs.Contents.{ContentsAre, Sized, rowsTile, countsFrom, toldFrom};
 
 // The sizes that a file's contents tell, as the head of an empty pool; or contents that can't be.
 pub enum Contents {
@@ -51,7 +53,7 @@ pub fn contents_of(bytes: &[u8]) -> Contents
     if !sizes_ok(head) {
         return Contents::Bad;
     }
-    if bytes.len() < 4 * (4 + 3 * (wide(spaces) + 1)) {
+    if !is_whole(bytes) {
         return Contents::Bad;
     }
     Contents::Sizes(head)
@@ -72,14 +74,6 @@ pub fn rows_tile(bytes: &[u8], spaces: usize) -> bool
         i += 1;
     }
     at == bytes.len() / 4
-}
-
-// The third word of row i: how many pairs its body has, or frames the pool.
-fn count_at(bytes: &[u8], i: usize) -> usize
-    requires { ⌜ 4 * firstBody i ≤ length (now bytes) ⌝ }
-    ensures { λ r. ⌜ (r ≡ rowCount (wordsIn (now (bytes .entry))) i) × (r < 4294967296) ⌝ }
-{
-    index_at(bytes, 4 + (3 * i + 2))
 }
 
 // The third words of all rows, added up.

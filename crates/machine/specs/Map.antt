@@ -51,7 +51,7 @@ unfoldable pub bodies : List Part → List ℕ
 bodies [] = []
 bodies (x ∷ xs) = x .words ++ bodies xs
 
--- the words of the contents, where the first body starts (W-210: 5 S + 7)
+-- the words of the contents of a file of s spaces, where the first body starts (W-210: 5 S + 7)
 abbrev pub firstBody : ℕ → ℕ
 firstBody s = 4 + 3 * suc s
 
@@ -123,9 +123,19 @@ wholeFrom (suc k) [] = false
 abbrev pub sizesIn : List ℕ → Sizes
 sizesIn ws = record { spaces = getD ws 0 0; pages = getD ws 1 0; frames = getD ws 2 0; page = getD ws 3 0 }
 
+-- the three words of row i, that of the pool for i = S: where its body starts, its length in words, and its resident pages, of the pool its length
+abbrev pub rowStart : List ℕ → ℕ → ℕ
+rowStart ws i = getD ws (4 + 3 * i) 0
+
+abbrev pub rowLength : List ℕ → ℕ → ℕ
+rowLength ws i = getD ws (4 + (3 * i + 1)) 0
+
+abbrev pub rowCount : List ℕ → ℕ → ℕ
+rowCount ws i = getD ws (4 + (3 * i + 2)) 0
+
 -- the body of space i; of the pool, for i = S
 abbrev pub partIn : List ℕ → ℕ → List ℕ
-partIn ws i = take (getD ws (4 + (3 * i + 1)) 0) (drop (getD ws (4 + 3 * i) 0) ws)
+partIn ws i = take (rowLength ws i) (drop (rowStart ws i) ws)
 
 -- what the block that starts at page b has, if there is one
 unfoldable pub entriesAt : List Block → ℕ → Option (List Entry)

@@ -1,14 +1,16 @@
--- A small state and its map file, by computing from the definitions; and damaged files, which describe nothing.
+-- A small state and its map file, by computing from the definitions; damaged files, which describe nothing; and what contents tell alone.
 use mathlib.Core.Path.{_≡_, refl}
 use mathlib.Core.Bool.{true, false}
 use mathlib.Core.List.{List, [], _∷_, _++_}
 use mathlib.Core.Option.{Option, none, some}
 use Prim.Native.Nat.{ℕ}
-use lib.ListN.{set}
+use lib.ListN.{set, take, replicate}
 use Rattle.sequence.specs.Lists.{tabulate}
 use Rattle.places.specs.Places.{allNew, anyFrom}
 use Rattle.words.specs.Words.{bytesOf, wordsIn}
 use Rattle.machine.specs.State.{sizes, State, sizesOk, isPageSize, untilStart, records}
+use Rattle.machine.specs.Machine.{Answer, pages, refused}
+use Rattle.machine.specs.Fullness.{fullnessOf}
 use Rattle.machine.specs.Map.{entryWords, bodyWords, rows, bodies, fileWords, mapWords, mapOf, restIn, wholeFrom, entriesAt}
 use Rattle.machine.specs.MapRules.{allWithin, tiled, fineFrom, pagesOnce, entriesOf, bodiesFine, heldFrames, same, rulesOk, described}
 
@@ -80,3 +82,38 @@ start-moved = refl
 bytes-more : described [] (bytesOf smallWords ++ (0 ∷ 0 ∷ [])) ≡ none
 unfolding told
 bytes-more = refl
+
+-- ---- W-203: how full a space is, by the contents alone
+
+-- the first 52 bytes
+abbrev smallContents : List ℕ
+smallContents = bytesOf (take 13 smallWords)
+
+unfoldable full : List ℕ → ℕ → Answer
+unfolding bytesOf wordsIn
+full bytes i = fullnessOf bytes i
+
+full-of-each : full smallContents 0 ∷ full smallContents 1 ∷ [] ≡ pages 2 ∷ pages 0 ∷ []
+unfolding full
+full-of-each = refl
+
+-- the pool's row is no space's
+pool-is-no-space : full smallContents 2 ≡ refused 2
+unfolding full
+pool-is-no-space = refl
+
+-- with a byte of the contents missing, or all of them; before a space that isn't there is minded
+cut-contents : full (take 51 smallContents) 0 ∷ full (take 51 smallContents) 2 ∷ full (take 3 smallContents) 0 ∷ full [] 0 ∷ []
+    ≡ refused 1 ∷ refused 1 ∷ refused 1 ∷ refused 1 ∷ []
+unfolding full
+cut-contents = refl
+
+-- S of 0 and of 65
+spaces-outside : full (bytesOf (set smallWords 0 0)) 0 ∷ full (bytesOf (65 ∷ replicate 201 0)) 0 ∷ [] ≡ refused 1 ∷ refused 1 ∷ []
+unfolding full
+spaces-outside = refl
+
+-- "as it stands": of other words only S counts, so N, F, P, places and lengths may be any
+as-it-stands : full (bytesOf (2 ∷ replicate 5 0 ++ (4294967295 ∷ 9 ∷ 9 ∷ 7 ∷ replicate 3 0))) 0 ≡ pages 4294967295
+unfolding full
+as-it-stands = refl

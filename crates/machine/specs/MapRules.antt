@@ -90,9 +90,17 @@ restored ram ws = cond (rulesOk ws) (some (stateIn ram ws)) none
 
 -- ---- the same of bytes
 
+-- how many words the contents have, by what the file's own words tell (W-210: of which kind the file is)
+abbrev pub contentsWords : List ℕ → ℕ
+contentsWords ws = firstBody (sizesIn ws .spaces)
+
+-- not so: "contents cut short"
+abbrev pub contentsWhole : List ℕ → Bool
+contentsWhole file = leb (4 * contentsWords (wordsIn file)) (length file)
+
 -- not so: "contents cut short or sizes outside their limits"
 abbrev pub contentsOk : List ℕ → Bool
-contentsOk file = let z = sizesIn (wordsIn file) in sizesOk z && leb (4 * firstBody (z .spaces)) (length file)
+contentsOk file = sizesOk (sizesIn (wordsIn file)) && contentsWhole file
 
 -- "The file is exactly the bytes given": whole words that keep the rules
 abbrev pub fileOk : List ℕ → Bool

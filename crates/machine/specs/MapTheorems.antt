@@ -1,27 +1,32 @@
--- What a reader takes of the map file: reading accepts exactly the words of sound states, and tells each file's one state.
+-- What a reader takes of the map file: reading accepts exactly the words of sound states, and tells each file's one state; and what its contents tell alone.
 use mathlib.Core.Path.{_≡_, refl, sym, ap, ap₂, _∙_, subst}
 use mathlib.Core.Bool.{Bool, true, false, cond, _&&_}
 use mathlib.Core.Option.{none, some, Option·none-ne-some, Option·some-injective}
-use mathlib.Core.List.{List, [], _∷_}
-use Prim.Native.Nat.{ℕ, suc, _*_, _/_, _%_, _≤_, _<_}
+use mathlib.Core.List.{List, _++_}
+use Prim.Native.Nat.{ℕ, _*_, _/_, _%_, _≤_, _<_}
 use native.Mathlib.Omega.{arith}
 use borrow.Author.Tests.{eq-eqb, eqb-true, le-leb}
 use lib.Dec.{eqb}
-use lib.ListN.{length, length-append}
-use Rattle.sequence.specs.Lists.{Each, tabulate, length-tabulate}
+use lib.ListN.{length, take}
+use Rattle.sequence.specs.Lists.{Each}
 use Rattle.words.specs.Words.{bytesOf, wordsIn}
 use Rattle.words.specs.Laws.{words-bytes, bytes-words, length-bytes, length-words}
 use Rattle.machine.specs.State.{State, withRam}
-use Rattle.machine.specs.Claims.{Sound, Described}
-use Rattle.machine.specs.Map.{firstBody, mapWords, mapOf, sizesIn, stateIn}
-use Rattle.machine.specs.MapRules.{spaceIn, poolIn, partsIn, rulesOk, restored, contentsOk, fileOk, described}
+use Rattle.machine.specs.Machine.{pages}
+use Rattle.machine.specs.Claims.{Sound, Described, residentIn}
+use Rattle.machine.specs.Map.{spacePart, poolPart, mapWords, mapOf, sizesIn, partIn, blocksIn, stateIn}
+use Rattle.machine.specs.MapRules.{entriesOf, spaceIn, poolIn, partsIn, rulesOk, restored, contentsWords, contentsWhole, contentsOk, fileOk, described}
+use Rattle.machine.specs.Fullness.{fullnessOf}
 use Rattle.machine.specs.Laws.Sizes.{both}
-use Rattle.machine.specs.Laws.Map.Contents.{contents-fit}
+use Rattle.machine.specs.Laws.Records.{listed-in}
+use Rattle.machine.specs.Laws.Map.Contents.{parts-many, contents-fit}
 use Rattle.machine.specs.Laws.Map.Rules.{rules-of}
 use Rattle.machine.specs.Laws.Map.Back.{state-back}
 use Rattle.machine.specs.Laws.Map.Keeps.{sound-rules}
 use Rattle.machine.specs.Laws.Map.Exact.{read-write}
 use Rattle.machine.specs.Laws.Map.Sounds.{rules-sound}
+use Rattle.machine.specs.Laws.Map.Length.{part-listed}
+use Rattle.machine.specs.Laws.Map.Fullness.{space-told, rest-unread, cut-unread}
 
 -- ---- words
 
@@ -135,16 +140,11 @@ write-then-read m s = described-file (m .ram) (mapOf m) m (record { sound = s; r
 
 -- ---- how long a file is
 
-parts-long : (ws : List ℕ) → length (partsIn ws) ≡ suc (sizesIn ws .spaces)
-parts-long ws =
-    let spaces = sizesIn ws .spaces in
-    omega (arith, length-append (tabulate (spaceIn ws) spaces) (poolIn ws ∷ []), length-tabulate (spaceIn ws) spaces)
-
 -- words that keep the rules have all of the contents
-pub contents-needed : (file : List ℕ) → rulesOk (wordsIn file) ≡ true → 4 * firstBody (sizesIn (wordsIn file) .spaces) ≤ length file
+pub contents-needed : (file : List ℕ) → rulesOk (wordsIn file) ≡ true → 4 * contentsWords (wordsIn file) ≤ length file
 contents-needed file h =
     let ws = wordsIn file in
-    let fits = contents-fit (sizesIn ws) (partsIn ws) (parts-long ws) in
+    let fits = contents-fit (sizesIn ws) (partsIn ws) (parts-many (spaceIn ws) (sizesIn ws .spaces) (poolIn ws)) in
     omega (arith, fits, ap (λ (xs : List ℕ). length xs) (rules-of ws h .contents), length-words (length file / 4) file refl)
 
 -- a map has sound contents
@@ -160,3 +160,30 @@ described-ok ram file m e = go (fileOk file) refl e
     go : (t : Bool) → fileOk file ≡ t → cond t (some (stateIn ram (wordsIn file))) none ≡ some m → fileOk file ≡ true
     go true h f = h
     go false h f = absurd (Option·none-ne-some m f)
+
+-- ---- W-203: how full a space is, from the contents alone
+
+-- "for any file W-202's reading accepts, the number of pairs in that space's body"
+pub fullness-pairs : (file : List ℕ) → fileOk file ≡ true → (i : ℕ) → i < sizesIn (wordsIn file) .spaces
+    → fullnessOf file i ≡ pages (length (entriesOf (blocksIn (partIn (wordsIn file) i))))
+fullness-pairs file h i below =
+    let ws = wordsIn file in
+    let r = rules-of ws (both (eqb (length file % 4) 0) _ h .1) in
+    space-told file (sizesIn ws) (spaceIn ws) (poolIn ws) (r .sizes-ok) (sym (r .contents)) i below
+
+-- the resident pages of the space in the state whose map it is
+pub fullness-resident : (file ram : List ℕ) (m : State) → Described file ram m → (i : ℕ) → i < m .sizes .spaces
+    → fullnessOf file i ≡ pages (residentIn m i)
+fullness-resident file ram m d i below =
+    let words : wordsIn file ≡ mapWords m = ap wordsIn (sym (d .file-is)) ∙ words-bytes (mapWords m) in
+    space-told file (m .sizes) (spacePart m) (poolPart m) (d .sound .sizes-ok) words i below
+    ∙ ap pages (part-listed m i ∙ listed-in m (d .sound) i)
+
+-- "From them alone": whatever follows whole contents, and if nothing does
+pub fullness-alone : (contents rest : List ℕ) → contentsWhole contents ≡ true → (i : ℕ) → fullnessOf (contents ++ rest) i ≡ fullnessOf contents i
+fullness-alone = rest-unread
+
+-- and a file cut behind its contents tells the same
+pub fullness-cut : (file : List ℕ) → contentsWhole file ≡ true → (n : ℕ) → 4 * contentsWords (wordsIn file) ≤ n → (i : ℕ)
+    → fullnessOf (take n file) i ≡ fullnessOf file i
+fullness-cut = cut-unread

@@ -1,10 +1,16 @@
 // Reads a map file from standard input into tables full of garbage, and writes `no` and the number of its refusal, or `ok`, a blank and the map that
 // is written back, in hex. There is room for 4,096 places and as many frames.
+// With a space as its argument it reads the contents alone, of a map of any size, and writes `pages` and how many the space has, or `no` and the number.
 use digits::put_hex;
+use fields::BLANK;
+use fields::Field;
+use fields::number_after_blank;
 use machine::Done;
+use machine::Fullness;
 use machine::MapWritten;
 use memory::Head;
 use memory::no_start;
+use pager::how_full;
 use pager::read_map;
 use pager::write_map;
 ghost use Prim.Native.Nat.{_+_, _≤_, _<_};
@@ -18,6 +24,9 @@ const INDEX: usize = 65;
 
 // One byte more than the longest map that there is room for has, so that a longer file is seen to be longer.
 const FILE: usize = 82_717;
+
+// The contents of 64 spaces, the longest that there are.
+const CONTENTS: usize = 796;
 
 // Two digits a byte.
 const TEXT: usize = 4_096;
@@ -100,7 +109,8 @@ fn print_again(
     }
 }
 
-fn main() {
+// The file read and written back.
+fn tell_file() {
     let mut file = [0u8; FILE];
     let mut index = [0x5555_5555_5555_5555u64; INDEX];
     let mut count = [0u32; PLACES];
@@ -133,4 +143,59 @@ fn main() {
         Done::Refused(number) => print_refused(number),
         Done::Ok => print_again(head, &index, &count, &table, &stack, &link),
     }
+}
+
+fn print_fullness(space: u32) {
+    let mut contents = [0u8; CONTENTS];
+    let n = io::read_full(0, &mut contents);
+    match how_full(space, &contents[..n]) {
+        Fullness::Refused(number) => print_refused(number),
+        Fullness::Pages(pages) => {
+            io::write_all(1, b"pages ");
+            io::print_decimal(1, pages as u64);
+            io::write_all(1, b"\n");
+        }
+    }
+}
+
+fn print_usage() {
+    io::write_all(
+        2,
+        b"mapread: usage: mapread < FILE, or mapread SPACE < FILE with the number of a space, at most nine digits\n",
+    );
+}
+
+// How full the space is whose number follows a blank in a text, and nothing else.
+fn tell_space(text: &[u8]) {
+    match number_after_blank(text, 0) {
+        Field::Nothing => print_usage(),
+        Field::Number(space, end) => {
+            if end == text.len() {
+                print_fullness(space);
+            } else {
+                print_usage();
+            }
+        }
+    }
+}
+
+// The argument is a number as a session's are, of one to nine digits.
+fn tell_fullness() {
+    let mut text = [BLANK; 10];
+    let n = os::arg(1, &mut text[1..]);
+    let end = n + 1;
+    tell_space(&text[..end]);
+}
+
+fn main() {
+    let words = os::arg_count();
+    if words < 2 {
+        tell_file();
+        return;
+    }
+    if words == 2 {
+        tell_fullness();
+        return;
+    }
+    print_usage();
 }

@@ -30,3 +30,6 @@ pub use saving::write_map;
 // Begins anew with the state that a map file describes, the RAM as it stands: Ok. Refused: 12, its contents are cut short or name other sizes than there
 // are; 1; 12, it is no map. Like start it needs none before it.
 pub use loading::read_map;
+// How full a space is, from a map file's contents alone, whatever follows them: Pages, the space's third word as it stands. Refused: 1, the contents are cut
+// short or their number of spaces is outside its limits; 2. It needs no pager.
+pub use contents::how_full;

@@ -2,6 +2,7 @@
 use machine::Copied;
 use machine::Done;
 use machine::Free;
+use machine::Fullness;
 use machine::Listed;
 use machine::Looked;
 use machine::MapWritten;
@@ -14,6 +15,7 @@ ghost use mathlib.Core.Path.{_≡_};
 ghost use Prim.Native.Nat.{ℕ};
 ghost use lib.ListN.{length, take};
 ghost use Rattle.machine.specs.Answers.{doneSays, touchedSays, lookedSays, releasedSays, freeSays, translatedSays, copiedSays, listedSays, mapWrittenSays};
+ghost use Rattle.machine.specs.Answers.{fullnessSays};
 ghost use Rattle.machine.specs.declared.Region.{Region};
 ghost use Rattle.promise.specs.Filled.{recordsIn, recordsFilled, bytesFilled};
 ghost use Rattle.requests.specs.Requests.{replied};
@@ -142,6 +144,15 @@ pub fn of_written(a: MapWritten) -> Reply
     }
 }
 
+pub fn of_fullness(a: Fullness) -> Reply
+    ensures { λ r. ⌜ ((buffer records : List ℕ) → replied r buffer records ≡ fullnessSays a) ⌝ }
+{
+    match a {
+        Fullness::Pages(n) => Reply::Pages(n),
+        Fullness::Refused(k) => Reply::Refused(k),
+    }
+}
+
 // ---- a reply as numbers
 
 fn numbers(kind: u32, value: u64, words: u32) -> Answer
@@ -239,4 +250,10 @@ pub fn encode_written(a: MapWritten, n: usize) -> Answer
     ensures { λ r. ⌜ ((buffer : List ℕ) → length buffer ≡ n → numbersOf r ≡ encoded (mapWrittenSays a (take (bytesFilled a) buffer))) ⌝ }
 {
     encode(of_written(a), n)
+}
+
+pub fn encode_fullness(a: Fullness) -> Answer
+    ensures { λ r. ⌜ numbersOf r ≡ encoded (fullnessSays a) ⌝ }
+{
+    encode(of_fullness(a), 0)
 }

@@ -8,7 +8,7 @@ use native.Mathlib.Nat.{zero-add, suc-add}
 use native.Mathlib.Omega.{arith}
 use lib.ListN.{length, getD, take, drop}
 use lib.Seq.{slice, slice-empty, length-slice, take-nil, append-snoc}
-use Rattle.machine.specs.Map.{Block, blocksIn, partIn, restIn, wholeFrom}
+use Rattle.machine.specs.Map.{Block, blocksIn, rowStart, rowLength, partIn, restIn, wholeFrom}
 use Rattle.machine.specs.Laws.Map.Bodies.{entries-back, whole-entries}
 use Rattle.walking.specs.Laws.{startAt, lengthAt, countAt, nextAt, entriesAt, after-is, whole-short, whole-cut, head-slice}
 
@@ -98,6 +98,6 @@ slice-part zero n ws = rw (zero-add n) refl
 slice-part (suc s) n [] = rw (suc-add s n) (sym (take-nil n))
 slice-part (suc s) n (w ∷ ws) = rw (suc-add s n) (slice-part s n ws)
 
-pub part-slice : (ws : List ℕ) (i s n : ℕ) → s ≡ getD ws (4 + 3 * i) 0 → n ≡ getD ws (4 + (3 * i + 1)) 0 → slice s (s + n) ws ≡ partIn ws i
+pub part-slice : (ws : List ℕ) (i s n : ℕ) → s ≡ rowStart ws i → n ≡ rowLength ws i → slice s (s + n) ws ≡ partIn ws i
 part-slice ws i s n s-is n-is =
-    slice-part s n ws ∙ ap (λ (x : ℕ). take x (drop s ws)) n-is ∙ ap (λ (x : ℕ). take (getD ws (4 + (3 * i + 1)) 0) (drop x ws)) s-is
+    slice-part s n ws ∙ ap (λ (x : ℕ). take x (drop s ws)) n-is ∙ ap (λ (x : ℕ). take (rowLength ws i) (drop x ws)) s-is

@@ -1,6 +1,6 @@
 -- Words and bytes are the same list, seen two ways.
 use mathlib.Core.Path.{_≡_, refl, sym, ap, _∙_}
-use mathlib.Core.List.{List, [], _∷_}
+use mathlib.Core.List.{List, [], _∷_, _++_}
 use Prim.Native.Nat.{ℕ, zero, suc, _+_, _*_, _/_, _%_, _≤_, _<_}
 use native.Mathlib.Nat.{div-div-eq-div-mul, div-add-mod'}
 use native.Mathlib.Omega.{arith}
@@ -89,6 +89,16 @@ word-is k (a ∷ b ∷ []) h = absurd (omega arith)
 word-is k (a ∷ b ∷ c ∷ []) h = absurd (omega arith)
 word-is zero (a ∷ b ∷ c ∷ d ∷ bs) h = refl
 word-is (suc k) (a ∷ b ∷ c ∷ d ∷ bs) h = rw (four-and k 1, four-and k 2, four-and k 3, four k) (word-is k bs (omega arith))
+
+-- words inside some bytes are the same, whatever follows these
+pub words-front : (k : ℕ) (bs cs : List ℕ) → 4 * k + 4 ≤ length bs → getD (wordsIn (bs ++ cs)) k 0 ≡ getD (wordsIn bs) k 0
+unfolding wordsIn
+words-front k [] cs h = absurd (omega arith)
+words-front k (a ∷ []) cs h = absurd (omega arith)
+words-front k (a ∷ b ∷ []) cs h = absurd (omega arith)
+words-front k (a ∷ b ∷ c ∷ []) cs h = absurd (omega arith)
+words-front zero (a ∷ b ∷ c ∷ d ∷ bs) cs h = refl
+words-front (suc k) (a ∷ b ∷ c ∷ d ∷ bs) cs h = words-front k bs cs (omega arith)
 
 -- a word put is an entry set
 pub put-word : (k w : ℕ) (bs : List ℕ) → 4 * k + 4 ≤ length bs → wordsIn (putWord bs k w) ≡ set (wordsIn bs) k w

@@ -11,3 +11,4 @@ pub mod Keeps
 pub mod Exact
 pub mod Sounds
 pub mod Length
+pub mod Fullness

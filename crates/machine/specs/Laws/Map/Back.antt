@@ -9,7 +9,7 @@ use native.Mathlib.Nat.{add-zero, mod-lt, div-add-mod', div-lt-iff-lt-mul}
 use native.Mathlib.Decide.{ℕ-discrete}
 use native.Mathlib.Omega.{arith}
 use borrow.Author.Tests.{eq-eqb, ne-eqb}
-use lib.ListN.{length, length-append, List·getD-append}
+use lib.ListN.{length}
 use lib.Seq.{getD-at, ext-getD}
 use Rattle.sequence.specs.Lists.{tabulate, length-tabulate, getD-tabulate, Each}
 use Rattle.machine.specs.State.{places, placeOf, State, Pair, isStart, region, records}
@@ -21,7 +21,7 @@ use Rattle.machine.specs.Laws.Regions.{owner-of}
 use Rattle.machine.specs.Laws.Kept.{none-elsewhere}
 use Rattle.machine.specs.Laws.Records.{recordAt, records-start, records-none}
 use Rattle.machine.specs.Laws.Map.Bodies.{blocks-back}
-use Rattle.machine.specs.Laws.Map.Contents.{part-back, noPart}
+use Rattle.machine.specs.Laws.Map.Contents.{noPart, parts-many, part-of, part-back}
 
 -- ---- the block of a page among those of its space
 
@@ -102,22 +102,18 @@ module _ (m : State) (s : Sound m) where
   abbrev S : ℕ
   S = m .sizes .spaces
 
-  spaces-are : length (tabulate (spacePart m) S) ≡ S
-  spaces-are = length-tabulate (spacePart m) S
-
-  pub parts-are : length (partsOf m) ≡ suc S
-  parts-are = omega (arith, length-append (tabulate (spacePart m) S) (poolPart m ∷ []), spaces-are)
+  parts-are : length (partsOf m) ≡ suc S
+  parts-are = parts-many (spacePart m) S (poolPart m)
 
   pub space-part : (i : ℕ) → i < S → partIn (mapWords m) i ≡ spacePart m i .words
   space-part i h =
       part-back (m .sizes) (partsOf m) parts-are i (omega (arith, parts-are))
-      ∙ ap (λ x. x .words) (List·getD-append (tabulate (spacePart m) S) (poolPart m ∷ []) noPart i (omega (arith, spaces-are)))
-      ∙ ap (λ x. x .words) (getD-tabulate (spacePart m) S i noPart h)
+      ∙ ap (λ x. x .words) (part-of (spacePart m) S (poolPart m) i h)
 
   pub pool-back : partIn (mapWords m) S ≡ m .pool
   pool-back =
       part-back (m .sizes) (partsOf m) parts-are S (omega (arith, parts-are))
-      ∙ ap (λ x. x .words) (getD-at (tabulate (spacePart m) S) (poolPart m) [] noPart S spaces-are)
+      ∙ ap (λ x. x .words) (getD-at (tabulate (spacePart m) S) (poolPart m) [] noPart S (length-tabulate (spacePart m) S))
 
   pub blocks-of : (i : ℕ) → i < S → blocksIn (partIn (mapWords m) i) ≡ blocksOf m i
   blocks-of i h = ap blocksIn (space-part i h) ∙ blocks-back (blocksOf m i)

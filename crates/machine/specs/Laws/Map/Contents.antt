@@ -3,10 +3,11 @@ use mathlib.Core.Path.{_≡_, refl, _∙_}
 use mathlib.Core.List.{List, [], _∷_, _++_}
 use Prim.Native.Nat.{ℕ, zero, suc, _+_, _*_, _≤_, _<_}
 use native.Mathlib.Omega.{arith}
-use lib.ListN.{length, getD, take, drop, length-append}
+use lib.ListN.{length, getD, take, drop, length-append, List·getD-append}
 use lib.Seq.{take-append-seam, drop-append-add}
+use Rattle.sequence.specs.Lists.{tabulate, length-tabulate, getD-tabulate}
 use Rattle.machine.specs.State.{Sizes}
-use Rattle.machine.specs.Map.{Part, rows, bodies, firstBody, fileWords, sizesIn, partIn}
+use Rattle.machine.specs.Map.{Part, rows, bodies, firstBody, fileWords, sizesIn, rowCount, partIn}
 
 -- the part that stands past a list's end
 abbrev pub noPart : Part
@@ -54,6 +55,15 @@ body-at i [] h = absurd (omega arith)
 body-at zero (x ∷ xs) h = take-append-seam (x .words) (bodies xs)
 body-at (suc i) (x ∷ xs) h = rw (drop-append-add (x .words) (bodies xs) (before i xs)) (body-at i xs (omega arith))
 
+-- ---- the parts of a file: those of n spaces, then the pool's
+
+module _ (f : ℕ → Part) (n : ℕ) (pool : Part) where
+  pub parts-many : length (tabulate f n ++ (pool ∷ [])) ≡ suc n
+  parts-many = omega (arith, length-append (tabulate f n) (pool ∷ []), length-tabulate f n)
+
+  pub part-of : (i : ℕ) → i < n → getD (tabulate f n ++ (pool ∷ [])) i noPart ≡ f i
+  part-of i h = List·getD-append (tabulate f n) (pool ∷ []) noPart i (omega (arith, length-tabulate f n)) ∙ getD-tabulate f n i noPart h
+
 -- ---- the file
 
 module _ (z : Sizes) (xs : List Part) (all : length xs ≡ suc (z .spaces)) where
@@ -85,8 +95,7 @@ module _ (z : Sizes) (xs : List Part) (all : length xs ≡ suc (z .spaces)) wher
       )
       (body-at i xs h)
 
-  -- W-203: the third word of a space's row
-  pub count-back : (i : ℕ) → i < length xs → getD (fileWords z xs) (4 + (3 * i + 2)) 0 ≡ getD xs i noPart .count
+  pub count-back : (i : ℕ) → i < length xs → rowCount (fileWords z xs) i ≡ getD xs i noPart .count
   count-back i h = word-after (3 * i + 2) ∙ row-count first i xs (bodies xs) h
 
   -- the contents stand before the bodies

@@ -1,4 +1,4 @@
--- How long the map of a sound state is at most: by its spaces, its places and its frames.
+-- What the contents tell of a space; and how long the map of a sound state is at most: by its spaces, its places and its frames.
 use mathlib.Core.Path.{_≡_, refl, ap, _∙_}
 use mathlib.Core.Bool.{Bool, true, false}
 use mathlib.Core.List.{List, [], _∷_, _++_, map}
@@ -61,6 +61,12 @@ module _ (m : State) where
       go true e ih = rw (records-start m lo b n e, length-map, ih)
       go false e ih = rw (records-none m lo b n e) ih
 
+  -- what the contents tell of a space are the resident pages of its records
+  pub part-listed : (i : ℕ) → spacePart m i .count ≡ listed i
+  part-listed i =
+      let lo = placeOf (m .sizes) i 0 in
+      sum-map (λ b. length (b .entries)) (blockOf m lo) (recordsOf m i) ∙ entries-listed lo 0 (m .sizes .pages)
+
   space-size : (i : ℕ) → length (spacePart m i .words) ≤ 3 * m .sizes .pages + 2 * listed i
   space-size i =
       let lo = placeOf (m .sizes) i 0 in
@@ -70,7 +76,7 @@ module _ (m : State) where
         length-body (map (blockOf m lo) rs),
         length-map rs (blockOf m lo),
         records-few lo 0 (m .sizes .pages),
-        sum-map (λ b. length (b .entries)) (blockOf m lo) rs ∙ entries-listed lo 0 (m .sizes .pages),
+        part-listed i,
       )
 
   -- n spaces from number i on
