@@ -74,7 +74,7 @@ broken() {
     wrong_fullness "all of the file is asked for" "contents_len < 4 * contents_words(spaces)" "contents_len <= 4 * contents_words(spaces)"
     wrong_fullness "65 spaces" "spaces > CORWYSTAL_MOST_SPACES || contents" "spaces > CORWYSTAL_MOST_SPACES + 1 || contents"
     wrong_fullness "no spaces" "spaces == 0 || spaces > CORWYSTAL_MOST_SPACES || contents" "spaces > CORWYSTAL_MOST_SPACES || contents"
-    wrong_fullness "2 before 1" "    uint32_t spaces = contents_len < 4 ? 0 : word_at(contents, 0);" "    uint32_t spaces = contents_len < 4 ? 0 : word_at(contents, 0);
+    wrong_fullness "2 before 1" "? 0 : word_at(contents, 0);" "? 0 : word_at(contents, 0);
     if (spaces != 0 && space >= spaces)
         return SAY(CORWYSTAL_NO_SPACE, 0, 0);"
     wrong "a page may stand twice" "!adds_place(seen, w, lo + page))" "0)"

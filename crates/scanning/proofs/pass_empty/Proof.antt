@@ -20,7 +20,8 @@ returns c = c .before .before .before .loop .inv
 loop-again : tie.Need-loop-again Inv-loop μ-loop
 loop-again c =
     let l = c .before .before .before .loop in
-    (omega arith, omega arith, empty-more (c .before .before .before .before .args .index .now) (c .before .before .before .before .args .from) (l .w) (l .inv .2) (c .if1 .left))
+    let s = c .before .before .before .before .args in
+    (omega arith, omega arith, empty-more (s .index .now) (s .from) (l .w) (l .inv .2) (c .if1 .left))
 
 returns-2 : tie.Need-returns-2 Inv-loop μ-loop
 returns-2 c = c .before .loop .inv
