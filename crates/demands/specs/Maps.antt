@@ -5,7 +5,7 @@ use Prim.Native.Nat.{ℕ, _*_, _≤_, _<_}
 use lib.ListN.{length, take}
 use Rattle.sequence.specs.Lists.{Each}
 use Rattle.words.specs.Words.{wordsIn}
-use Rattle.machine.specs.Machine.{State, withRam, everyTable, writeMap, readMap, Answer, done, pages, mapFile, refused}
+use Rattle.machine.specs.Machine.{State, withRam, everyTable, readMap, Answer, done, pages, mapFile, refused}
 use Rattle.machine.specs.Answers.{mapWrittenSays}
 use Rattle.machine.specs.Claims.{residentIn, Described}
 use Rattle.machine.specs.Map.{firstBody, sizesIn}

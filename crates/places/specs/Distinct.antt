@@ -10,7 +10,7 @@ use borrow.Author.Tests.{eq-eqb, ltb-true, lt-ltb}
 use lib.Dec.{ltb}
 use lib.ListN.{length}
 use Rattle.sequence.specs.Lists.{tabulate, length-tabulate, getD-tabulate}
-use Rattle.sequence.specs.Sums.{sum, sum-one, sumFrom, sum-by-place, hit, hit-same, hit-other, count-from, count-none}
+use Rattle.sequence.specs.Sums.{sum, sum-one, sumFrom, sum-by-place, hit, hit-same, hit-other, count-from, count-none, sum-from-same}
 use Rattle.places.specs.Places.{put, adding, allNew}
 use Rattle.places.specs.Sets.{put-here, put-other}
 
@@ -28,17 +28,12 @@ new-parts f s x xs h = go (ltb x f) (s x) refl refl h
 
 -- ---- sums over numbers from p on
 
-sum-from-same : (h h′ : ℕ → ℕ) (p n : ℕ) → ((q : ℕ) → p ≤ q → q < p + n → h′ q ≡ h q) → sumFrom h′ p n ≡ sumFrom h p n
-sum-from-same h h′ p zero e = refl
-sum-from-same h h′ p (suc n) e =
-    omega (arith, e p (omega arith) (omega arith), sum-from-same h h′ (suc p) n (λ q a b. e q (omega arith) (omega arith)))
-
 -- h′ is h but for one number, where it is a more
 sum-from-more : (h h′ : ℕ → ℕ) (f a p n : ℕ) → p ≤ f → f < p + n → h′ f ≡ h f + a → ((q : ℕ) → q ≢ f → h′ q ≡ h q)
     → sumFrom h′ p n ≡ sumFrom h p n + a
 sum-from-more h h′ f a p zero l k e o = absurd (omega arith)
 sum-from-more h h′ f a p (suc n) l k e o = elim (ℕ-discrete p f) [
-  | yes d ↦ omega (arith, ap h d, ap h′ d, e, sum-from-same h h′ (suc p) n (λ q x y. o q (λ c. omega arith)))
+  | yes d ↦ omega (arith, ap h d, ap h′ d, e, sum-from-same h′ h (suc p) n (λ q x y. o q (λ c. omega arith)))
   | no d ↦ omega (arith, o p d, sum-from-more h h′ f a (suc p) n (omega arith) (omega arith) e o)
 ]
 

@@ -1,33 +1,27 @@
 -- On memory that stands for a state, what is saved is that state's map file.
 use mathlib.Core.Path.{_≡_, refl, sym, ap, ap₂, _∙_}
-use mathlib.Core.Bool.{Bool, true, false, cond, _&&_}
+use mathlib.Core.Bool.{Bool, true, false, cond}
 use mathlib.Core.List.{List, [], _∷_, _++_, map}
 use Prim.Native.Nat.{ℕ, zero, suc, _+_, _*_, _≤_, _<_}
 use native.Mathlib.Nat.{add-zero, zero-add, mul-le-mul-right, suc-mul}
 use native.Mathlib.Omega.{arith}
 use borrow.Author.Tests.{le-leb, eq-eqb}
-use lib.ListN.{length, getD, drop}
+use lib.ListN.{length, getD}
 use Rattle.sequence.specs.Lists.{tabulate, tabulate-same}
-use Rattle.sequence.specs.Sums.{sumFrom, sum-by-place}
-use Rattle.words.specs.Words.{bytesOf}
-use Rattle.words.specs.Laws.{length-bytes}
+use Rattle.sequence.specs.Sums.{sumFrom, sum-from-same, sum-by-place}
 use Rattle.layer.specs.Words.{bitAt}
 use Rattle.index.specs.Laws.{index-bit}
-use Rattle.machine.specs.Machine.{Uses, enough, sizesOk, State, Sizes, places, placeOf, isStart, region, records}
+use Rattle.machine.specs.Machine.{State, Sizes, places, placeOf, isStart, region, records}
 use Rattle.machine.specs.Claims.{noPair, residentPages}
-use Rattle.machine.specs.Map.{Part, entryOf, blockOf, spacePart, partsOf, fileWords, mapWords, mapOf}
+use Rattle.machine.specs.Map.{Part, entryOf, blockOf, spacePart, partsOf, fileWords, mapWords}
 use Rattle.machine.specs.Laws.Holders.{pool-and-resident}
 use Rattle.machine.specs.Laws.Kept.{none-elsewhere}
 use Rattle.machine.specs.declared.Region.{Region}
-use Rattle.machine.specs.declared.MapWritten.{MapWritten}
-use Rattle.machine.specs.declared.MapWritten.the-variants.{Bytes}
-use Rattle.memory.specs.Memory.{Memory, memory, at, sizesOf, lengths}
+use Rattle.memory.specs.Memory.{Memory, memory, at, sizesOf}
 use Rattle.promise.specs.Did.{framesLeft}
 use Rattle.promise.specs.Holds.{Chain, Holds, unused}
-use Rattle.laws.specs.Checks.{same-lent}
 use Rattle.scanning.specs.Starts.{until-ext}
 use Rattle.saving.specs.Saved.{entryAt, entriesBy, blocksFrom, blocksBy, partOf, spaceFrom, chained, poolBy, partsBy, savedWords, countsIn, addsUp}
-use Rattle.saving.specs.Saved.{saveable, NotSaved, Saves}
 use Rattle.saving.specs.Sizes.{length-pool}
 
 -- ---- lists
@@ -39,10 +33,6 @@ unfolding tabulate
 map-by-place d g [] f e = refl
 map-by-place {A} {B} d g (x ∷ xs) f e =
     ap₂ (λ (y : B) (ys : List B). y ∷ ys) (e 0 (omega arith)) (map-by-place d g xs (λ j. f (suc j)) (λ j l. e (suc j) (omega arith)))
-
-sum-from-same : (f g : ℕ → ℕ) (p n : ℕ) → ((q : ℕ) → p ≤ q → q < p + n → f q ≡ g q) → sumFrom f p n ≡ sumFrom g p n
-sum-from-same f g p zero e = refl
-sum-from-same f g p (suc n) e = ap₂ _+_ (e p (omega arith) (omega arith)) (sum-from-same f g (suc p) n (λ q a b. e q (omega arith) (omega arith)))
 
 chain-is : (link : List ℕ) (a b : ℕ) (xs : List ℕ) → Chain link a xs b → chained link a (length xs) ≡ xs
 unfolding chained

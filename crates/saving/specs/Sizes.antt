@@ -9,7 +9,9 @@ use lib.ListN.{length, length-append}
 use Rattle.sequence.specs.Lists.{suc-across, tabulate, length-tabulate}
 use Rattle.sequence.specs.Sums.{sum, sumFrom, sum-blocks}
 use Rattle.layer.specs.Words.{bitAt}
-use Rattle.machine.specs.Map.{Entry, Block, entryWords, bodyWords, Part, rows, bodies, firstBody, fileWords}
+use Rattle.machine.specs.Map.{Block, Part, rows, bodies, firstBody, fileWords}
+use Rattle.machine.specs.Laws.Map.Contents.{length-rows}
+use Rattle.machine.specs.Laws.Map.Length.{length-body}
 use Rattle.memory.specs.Memory.{Memory, at, sizesOf}
 use Rattle.memory.specs.declared.Head.{Head}
 use Rattle.promise.specs.Did.{framesLeft}
@@ -17,21 +19,6 @@ use Rattle.promise.specs.Holds.{unused}
 use Rattle.saving.specs.Saved.{entriesFrom, blocksFrom, spaceFrom, spacesBy, chained, poolBy, partsBy, savedWords, startsIn, countsIn}
 
 -- ---- words
-
-length-entries : (es : List Entry) → length (entryWords es) ≡ 2 * length es
-unfolding entryWords
-length-entries [] = refl
-length-entries (e ∷ es) = omega (arith, length-entries es)
-
-length-body : (bs : List Block) → length (bodyWords bs) ≡ 3 * length bs + 2 * sum (λ b. length (b .entries)) bs
-unfolding bodyWords
-length-body [] = refl
-length-body (b ∷ bs) = omega (arith, length-append (entryWords (b .entries)) (bodyWords bs), length-entries (b .entries), length-body bs)
-
-length-rows : (n : ℕ) (xs : List Part) → length (rows n xs) ≡ 3 * length xs
-unfolding rows
-length-rows n [] = refl
-length-rows n (x ∷ xs) = omega (arith, length-rows (n + length (x .words)) xs)
 
 pub length-chain : (link : List ℕ) (a n : ℕ) → length (chained link a n) ≡ n
 unfolding chained
