@@ -194,7 +194,7 @@ def hold_calls(command):
 
 # ---- how full a space is
 
-def fronts(draw, data):
+def front_of(draw, data):
     """All of a file, its contents alone, those cut short, or any front of it."""
     spaces = int.from_bytes(data[:4], "little")
     contents = 4 * mapfile.contents_words(spaces)
@@ -211,10 +211,10 @@ def questions(share=1):
     draw = files.Draw(9_900_000)
     for kind, number, data in files.files(share):
         if len(data) < 100_000:
-            yield kind, number, any_space(draw, data), fronts(draw, data)
+            yield kind, number, any_space(draw, data), front_of(draw, data)
     for number in range(3_000 // share):
         data = files.any_contents(draw)
-        yield "any contents", number, any_space(draw, data), fronts(draw, data)
+        yield "any contents", number, any_space(draw, data), front_of(draw, data)
 
 
 def full_of(data, space, tally):

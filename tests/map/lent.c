@@ -261,6 +261,8 @@ static void answer_fullness(uint32_t space, const uint8_t *bytes, size_t n)
     corwystal_answer a = how_full(space, contents, n);
     if (memcmp(contents, bytes, n) != 0)
         fail("the contents were changed");
+    if (a.words != 0 || a.value > UINT32_MAX || (corwystal_refused(a) && a.value != 0))
+        fail("an answer of how full a space is has other numbers too");
     free(contents);
     tell(a);
 }

@@ -1,5 +1,5 @@
 -- What each test decides: of whole contents, and of `fullnessOf`.
-use mathlib.Core.Path.{_≡_, sym, ap, _∙_}
+use mathlib.Core.Path.{_≡_, sym, ap, ap₂, _∙_}
 use mathlib.Core.Bool.{Bool, true, false, _&&_, and-false}
 use mathlib.Core.List.{List}
 use Prim.Native.Nat.{ℕ, _+_, _*_, _≤_, _<_}
@@ -30,27 +30,24 @@ module _ (bytes : List ℕ) (i : ℕ) where
   pub cut-short : contentsWhole bytes ≡ false → fullnessOf bytes i ≡ refused 1
   cut-short e = rw (e, and-false)
 
-  -- S, as it was read
-  module _ (s : ℕ) (s-is : s ≡ getD (wordsIn bytes) 0 0) where
-    by-spaces : (whole : Bool) → contentsWhole bytes ≡ whole → fullnessOf bytes i ≡ fullnessIf (between 1 64 s && whole) (ltb i s) (rowCount (wordsIn bytes) i)
-    by-spaces whole e =
-        ap (λ (t : Bool). fullnessIf (between 1 64 (getD (wordsIn bytes) 0 0) && t) (ltb i (getD (wordsIn bytes) 0 0)) (rowCount (wordsIn bytes) i)) e
-        ∙ ap (λ (n : ℕ). fullnessIf (between 1 64 n && whole) (ltb i n) (rowCount (wordsIn bytes) i)) (sym s-is)
+  -- whole contents, and S as it was read
+  module _ (s : ℕ) (s-is : s ≡ getD (wordsIn bytes) 0 0) (whole : contentsWhole bytes ≡ true) where
+    by-spaces : fullnessOf bytes i ≡ fullnessIf (between 1 64 s && true) (ltb i s) (rowCount (wordsIn bytes) i)
+    by-spaces = ap₂ (λ (n : ℕ) (t : Bool). fullnessIf (between 1 64 n && t) (ltb i n) (rowCount (wordsIn bytes) i)) (sym s-is) whole
 
-    module _ (whole : contentsWhole bytes ≡ true) where
-      pub too-few : s < 1 → fullnessOf bytes i ≡ refused 1
-      too-few h = by-spaces true whole ∙ rw (lt-leb 1 s h)
+    pub too-few : s < 1 → fullnessOf bytes i ≡ refused 1
+    too-few h = by-spaces ∙ rw (lt-leb 1 s h)
 
-      module _ (some-spaces : 1 ≤ s) where
-        pub too-many : 64 < s → fullnessOf bytes i ≡ refused 1
-        too-many h = by-spaces true whole ∙ rw (le-leb 1 s some-spaces, lt-leb s 64 h)
+    module _ (some-spaces : 1 ≤ s) where
+      pub too-many : 64 < s → fullnessOf bytes i ≡ refused 1
+      too-many h = by-spaces ∙ rw (le-leb 1 s some-spaces, lt-leb s 64 h)
 
-        module _ (few : s ≤ 64) where
-          within : fullnessOf bytes i ≡ fullnessIf true (ltb i s) (rowCount (wordsIn bytes) i)
-          within = by-spaces true whole ∙ rw (le-leb 1 s some-spaces, le-leb s 64 few)
+      module _ (few : s ≤ 64) where
+        within : fullnessOf bytes i ≡ fullnessIf true (ltb i s) (rowCount (wordsIn bytes) i)
+        within = by-spaces ∙ rw (le-leb 1 s some-spaces, le-leb s 64 few)
 
-          pub no-space : s ≤ i → fullnessOf bytes i ≡ refused 2
-          no-space h = within ∙ rw (le-ltb i s h)
+        pub no-space : s ≤ i → fullnessOf bytes i ≡ refused 2
+        no-space h = within ∙ rw (le-ltb i s h)
 
-          pub told : i < s → (n : ℕ) → n ≡ rowCount (wordsIn bytes) i → fullnessOf bytes i ≡ pages n
-          told h n n-is = within ∙ rw (lt-ltb i s h, n-is)
+        pub told : i < s → (n : ℕ) → n ≡ rowCount (wordsIn bytes) i → fullnessOf bytes i ≡ pages n
+        told h n n-is = within ∙ rw (lt-ltb i s h, n-is)
