@@ -113,7 +113,7 @@ typedef struct corwystal_answer {
 } corwystal_answer;
 
 enum {
-    CORWYSTAL_NO_SIZE = 1,      /* a size outside its limits, a buffer too short, or no start made */
+    CORWYSTAL_NO_SIZE = 1,      /* a size outside its limits, a buffer or map contents too short, or no start made */
     CORWYSTAL_NO_SPACE = 2,     /* no such space */
     CORWYSTAL_NO_PAGE = 3,      /* no such page or address, or the span ends beyond its space */
     CORWYSTAL_NO_REGION = 4,    /* the page lies below every start of its space */
@@ -148,7 +148,7 @@ CORWYSTAL_USE_ANSWER
 static inline const char *corwystal_text(corwystal_answer a) {
     switch (a.kind) {
     case CORWYSTAL_NO_SIZE:
-        return "a size outside its limits, a buffer too short, or no start made: lend what the sizes need, then start";
+        return "a size outside its limits, a buffer or map contents too short, or no start made: lend what the sizes need, then start; or fetch more of the map";
     case CORWYSTAL_NO_SPACE:
         return "no such space: name one below the number of spaces";
     case CORWYSTAL_NO_PAGE:

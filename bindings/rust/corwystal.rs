@@ -106,7 +106,8 @@ impl Sizes {
 #[derive(Clone, Copy, Debug, PartialEq, Eq)]
 #[repr(u32)]
 pub enum Refusal {
-    /// A size outside its limits, or a buffer too short for the sizes: [`Sizes::needs`] tells what they need.
+    /// A size outside its limits, or a buffer too short for the sizes: [`Sizes::needs`] tells what they need. Of [`how_full`], contents that are
+    /// cut short or whose number of spaces is outside its limits: fetch more of the map, or fetch it again.
     Size = 1,
     /// No such space: they are numbered from 0 to one less than [`Sizes::spaces`].
     NoSpace = 2,
@@ -163,7 +164,9 @@ impl Refusal {
 impl fmt::Display for Refusal {
     fn fmt(&self, f: &mut fmt::Formatter<'_>) -> fmt::Result {
         f.write_str(match self {
-            Refusal::Size => "a size outside its limits, a buffer too short, or no start made: lend what the sizes need, then start",
+            Refusal::Size => {
+                "a size outside its limits, a buffer or map contents too short, or no start made: lend what the sizes need, then start; or fetch more of the map"
+            }
             Refusal::NoSpace => "no such space: name one below the number of spaces",
             Refusal::NoPage => "no such page or address, or the span ends beyond its space: stay within the space",
             Refusal::NoRegion => "the page has no region: mark a start at it or before it",
