@@ -8,7 +8,7 @@
     hold.py full PROGRAM WORDS..          how full spaces are, by the fronts of files, all in one process: a line has the space and the bytes in hex
     hold.py spaces PROGRAM                the same, a process each, with the space as its argument and the bytes on standard input; and bad use
     hold.py write FOLDER                  the lines, the answers to come and what each file is, as lines, answers and kinds; of the histories calls and called;
-                                          of how full spaces are asked and told
+                                          of how full spaces are asked and fullness
 
 A program answers `no` and the refusal, or `ok`, a blank and in hex the map written back from its tables; in either way an LF and nothing else. A process
 a file takes some milliseconds, so `each` takes every twentieth of the files that are many; `lines` takes all, and lends more or less than is needed.
@@ -278,10 +278,10 @@ def write_lines(folder):
         for _, line, answer in all_calls():
             print(line, file=calls)
             print(answer, file=called)
-    with open(f"{folder}/asked", "w") as asked, open(f"{folder}/told", "w") as told:
+    with open(f"{folder}/asked", "w") as asked, open(f"{folder}/fullness", "w") as fullness:
         for _, _, space, data in questions():
             print(space, data.hex(), file=asked)
-            print(mapfile.how_full(data, space), file=told)
+            print(mapfile.how_full(data, space), file=fullness)
 
 
 def main():

@@ -59,8 +59,8 @@ wrong() { # NAME OLD NEW
 # The same of how full a space is: a question is answered otherwise.
 wrong_fullness() { # NAME OLD NEW
     other_words "$2" "$3"
-    (timeout 60 "$made/wrong" full < "$made/asked" > "$made/said") 2> /dev/null && cmp -s "$made/said" "$made/told" && fail "not found: $1"
-    echo "$1 -- $(diff "$made/said" "$made/told" | grep -c '^<') questions"
+    (timeout 60 "$made/wrong" full < "$made/asked" > "$made/said") 2> /dev/null && cmp -s "$made/said" "$made/fullness" && fail "not found: $1"
+    echo "$1 -- $(diff "$made/said" "$made/fullness" | grep -c '^<') questions"
     found=$((found + 1))
 }
 
