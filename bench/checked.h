@@ -1,6 +1,6 @@
 /*
- * Ten of the pager's calls by hand in C with the pager's checks: the arguments are those of corwystal.h. The faces hand over
- * the pager's own record (faces.c).
+ * Nine of the pager's calls, and how full a space is, by hand in C with the pager's checks: the arguments are those of
+ * corwystal.h. The faces hand over the pager's own record (faces.c).
  */
 #ifndef CHECKED_H
 #define CHECKED_H

@@ -148,7 +148,7 @@ CORWYSTAL_USE_ANSWER
 static inline const char *corwystal_text(corwystal_answer a) {
     switch (a.kind) {
     case CORWYSTAL_NO_SIZE:
-        return "a size outside its limits, a buffer or map contents too short, or no start made: lend what sizes need, then start; or fetch more of the map";
+        return "a size outside its limits, a buffer or map contents too short, or no start: lend what the sizes need, then start; or fetch more of the map";
     case CORWYSTAL_NO_SPACE:
         return "no such space: name one below the number of spaces";
     case CORWYSTAL_NO_PAGE:

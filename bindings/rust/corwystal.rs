@@ -165,7 +165,7 @@ impl fmt::Display for Refusal {
     fn fmt(&self, f: &mut fmt::Formatter<'_>) -> fmt::Result {
         f.write_str(match self {
             Refusal::Size => {
-                "a size outside its limits, a buffer or map contents too short, or no start made: lend what sizes need, then start; or fetch more of the map"
+                "a size outside its limits, a buffer or map contents too short, or no start: lend what the sizes need, then start; or fetch more of the map"
             }
             Refusal::NoSpace => "no such space: name one below the number of spaces",
             Refusal::NoPage => "no such page or address, or the span ends beyond its space: stay within the space",

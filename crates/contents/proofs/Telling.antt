@@ -4,7 +4,7 @@ use mathlib.Core.Bool.{Bool, true, false, _&&_, and-false}
 use mathlib.Core.List.{List}
 use Prim.Native.Nat.{ℕ, _+_, _*_, _≤_, _<_}
 use native.Mathlib.Omega.{arith}
-use borrow.Author.Tests.{leb-true, le-leb, lt-leb, le-ltb, lt-ltb}
+use borrow.Author.Tests.{le-leb, lt-leb, le-ltb, lt-ltb}
 use lib.Dec.{leb, ltb}
 use lib.ListN.{length, getD}
 use Rattle.words.specs.Words.{wordsIn}
@@ -22,9 +22,6 @@ module _ (bytes : List ℕ) where
   by-length s s-is =
       let same : 4 * (4 + 3 * (s + 1)) ≡ 4 * contentsWords (wordsIn bytes) = omega (arith, s-is) in
       ap (λ (n : ℕ). leb n (length bytes)) same
-
-  pub whole-long : contentsWhole bytes ≡ true → 4 * contentsWords (wordsIn bytes) ≤ length bytes
-  whole-long e = leb-true (4 * contentsWords (wordsIn bytes)) (length bytes) e
 
 module _ (bytes : List ℕ) (i : ℕ) where
   pub cut-short : contentsWhole bytes ≡ false → fullnessOf bytes i ≡ refused 1

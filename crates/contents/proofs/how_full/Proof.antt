@@ -4,7 +4,8 @@ use mathlib.Core.Bool.{true}
 use native.Mathlib.Omega.{arith}
 use Rattle.sequence.specs.Tests.{failed, held}
 use Rattle.machine.specs.MapRules.{contentsWhole}
-use Rattle.contents.proofs.Telling.{whole-long, cut-short, too-few, too-many, no-space, told}
+use Rattle.machine.specs.Laws.Map.Fullness.{contents-long}
+use Rattle.contents.proofs.Telling.{cut-short, too-few, too-many, no-space, told}
 use borrow.Author.Needs.{needs}
 use Rattle.contents.proofs.how_full.Statement.{statement}
 use Rattle.contents.proofs.how_full.Tie as tie
@@ -16,7 +17,7 @@ returns : tie.Need-returns
 returns c = sym (cut-short _ (c .before .before .before .args .space) (failed (c .before .is-whole .ensures) (c .if1 .taken)))
 
 index-at-requires : tie.Need-index-at-requires
-index-at-requires c κs = omega (arith, whole-long _ (whole c))
+index-at-requires c κs = omega (arith, contents-long _ (whole c))
 
 returns-2 : tie.Need-returns-2
 returns-2 c =
@@ -35,7 +36,7 @@ returns-4 c =
     sym (no-space _ _ _ (a .index-at .ensures .0) (whole (a .before)) (e .before .if2 .left) (e .if3 .left) (c .if4 .taken))
 
 count-at-requires : tie.Need-count-at-requires
-count-at-requires c κs = let a = c .before .before .before in omega (arith, whole-long _ (whole (a .before)), a .index-at .ensures .0, c .if4 .left)
+count-at-requires c κs = let a = c .before .before .before in omega (arith, contents-long _ (whole (a .before)), a .index-at .ensures .0, c .if4 .left)
 
 returns-5 : tie.Need-returns-5
 returns-5 c =

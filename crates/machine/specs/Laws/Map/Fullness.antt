@@ -18,6 +18,10 @@ use Rattle.machine.specs.Fullness.{fullnessIf, fullnessOf}
 use Rattle.machine.specs.Laws.Sizes.{fit}
 use Rattle.machine.specs.Laws.Map.Contents.{parts-many, part-of, sizes-back, count-back, contents-fit}
 
+-- whole contents lie in the bytes
+pub contents-long : (bytes : List ℕ) → contentsWhole bytes ≡ true → 4 * contentsWords (wordsIn bytes) ≤ length bytes
+contents-long bytes e = leb-true (4 * contentsWords (wordsIn bytes)) (length bytes) e
+
 -- of a file of these sizes, with such a part for each space
 module _ (file : List ℕ) (z : Sizes) (f : ℕ → Part) (pool : Part) (ok : sizesOk z ≡ true) where
   abbrev parts : List Part
@@ -52,7 +56,7 @@ module _ (contents rest : List ℕ) (whole : contentsWhole contents ≡ true) wh
   spaces = sizesIn (wordsIn contents) .spaces
 
   long : 4 * contentsWords (wordsIn contents) ≤ length contents
-  long = leb-true (4 * contentsWords (wordsIn contents)) (length contents) whole
+  long = contents-long contents whole
 
   pub rest-unread : (i : ℕ) → fullnessOf (contents ++ rest) i ≡ fullnessOf contents i
   rest-unread i =
@@ -72,7 +76,7 @@ module _ (contents rest : List ℕ) (whole : contentsWhole contents ≡ true) wh
 module _ (file : List ℕ) (whole : contentsWhole file ≡ true) (n : ℕ) (after : 4 * contentsWords (wordsIn file) ≤ n) where
   contents-kept : contentsWhole (take n file) ≡ true
   contents-kept =
-      let long = leb-true (4 * contentsWords (wordsIn file)) (length file) whole in
+      let long = contents-long file whole in
       let kept : 4 * contentsWords (wordsIn file) ≤ length (take n file) = omega (arith, length-take n file, after, long) in
       let same : getD (wordsIn file) 0 0 ≡ getD (wordsIn (take n file)) 0 0 =
       ap (λ (xs : List ℕ). getD (wordsIn xs) 0 0) (sym (take-append-drop n file)) ∙ words-front 0 (take n file) (drop n file) (omega (arith, kept)) in
