@@ -127,7 +127,7 @@ enum {
     CORWYSTAL_NO_MAP = 12,      /* the bytes are no map file */
     CORWYSTAL_NO_MAP_ROOM = 13, /* the buffer is shorter than the map */
 
-    CORWYSTAL_DONE = 16,     /* start, mark, drop, write, read_map */
+    CORWYSTAL_DONE = 16,     /* start, mark, drop, give_back, write, read_map */
     CORWYSTAL_OLD = 17,      /* touch: value is the frame; the page was resident */
     CORWYSTAL_NEW = 18,      /* touch: value is the frame; it was mapped just now and is all zeros */
     CORWYSTAL_RESIDENT = 19, /* look: value is the frame */
@@ -162,11 +162,11 @@ static inline const char *corwystal_text(corwystal_answer a) {
     case CORWYSTAL_RESIDENT_PAGES:
         return "the region has resident pages: release it first";
     case CORWYSTAL_NO_FRAME:
-        return "the pool has too few frames: release a region, then try again";
+        return "the pool has too few frames: release a region or give back a page, then try again";
     case CORWYSTAL_NOT_OURS:
         return "head or tables are not what these calls left: trust no page and start anew";
     case CORWYSTAL_NOT_RESIDENT:
-        return "the page is in a region, but absent: touch or write it first";
+        return "the page is in a region, but absent: touch or write it before it is read; there is nothing to give back";
     case CORWYSTAL_NO_ROOM:
         return "fewer records than regions: lend more records";
     case CORWYSTAL_NO_MAP:
@@ -220,7 +220,21 @@ corwystal_answer corwystal_release(corwystal_head *head, uint32_t space, uint32_
                                    size_t table_len, const uint32_t *stack, size_t stack_len, uint32_t *link,
                                    size_t link_len);
 
-/* How many frames the pool has. Nothing is freed: that is release. */
+/*
+ * Gives back one page, in constant time, as when a corrected page has made it useless; the other pages of its region stay. Its frame goes to
+ * the front of the pool, so that the next new page gets it. The region's newest page, which is the last in its list, takes the position of the
+ * page there; if it is the newest itself, the list just gets shorter. Release and map go by that list, whatever was mapped when. The start
+ * stays, also where the region is empty then, and so does the RAM, which isn't lent. Refused with 1 to 3, then with 4 if the page has no
+ * region, with 9 if head or tables are not what these calls left, and with 10 if the page isn't resident.
+ */
+CORWYSTAL_USE_ANSWER
+corwystal_answer corwystal_give_back(corwystal_head *head, uint32_t space, uint32_t page, const uint64_t *index,
+                                     size_t index_len, uint32_t *count, size_t count_len, const uint32_t *table,
+                                     size_t table_len, uint32_t *helper, size_t helper_len, uint32_t *stack,
+                                     size_t stack_len, const uint32_t *cache, size_t cache_len, uint32_t *link,
+                                     size_t link_len);
+
+/* How many frames the pool has. Nothing is freed: that is release and give_back. */
 CORWYSTAL_USE_ANSWER
 corwystal_answer corwystal_free_count(const corwystal_head *head);
 

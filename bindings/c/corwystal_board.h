@@ -78,6 +78,13 @@ static inline corwystal_answer corwystal_board_release(corwystal_board *b, uint3
 }
 
 CORWYSTAL_USE_ANSWER
+static inline corwystal_answer corwystal_board_give_back(corwystal_board *b, uint32_t space, uint32_t page) {
+    return corwystal_give_back(&b->head, space, page, b->index, b->index_len, b->count, b->count_len, b->table,
+                               b->table_len, b->helper, b->helper_len, b->stack, b->stack_len, b->cache, b->cache_len,
+                               b->link, b->link_len);
+}
+
+CORWYSTAL_USE_ANSWER
 static inline corwystal_answer corwystal_board_free_count(const corwystal_board *b) {
     return corwystal_free_count(&b->head);
 }

@@ -121,11 +121,11 @@ pub enum Refusal {
     StartAlready = 6,
     /// The region that would be cut or dropped has resident pages: release it first.
     ResidentPages = 7,
-    /// The pool has too few frames, and nothing was stored or mapped: release a region and try again.
+    /// The pool has too few frames, and nothing was stored or mapped: release a region or give back a page, and try again.
     NoFrame = 8,
     /// Head or tables are not what these calls left: trust no page and start anew.
     NotOurs = 9,
-    /// The page is in a region, but was neither touched nor written since its release: there is nothing to read.
+    /// The page is in a region, but was neither touched nor written since it was given back: there is nothing to read or to give back.
     NotResident = 10,
     /// Fewer records than regions: lend a longer slice; as many as a space has pages are always enough.
     NoRoom = 11,
@@ -173,9 +173,9 @@ impl fmt::Display for Refusal {
             Refusal::NoStart => "the page is no start: name one that the list of regions has",
             Refusal::StartAlready => "the page is a start already: use its region as it is",
             Refusal::ResidentPages => "the region has resident pages: release it first",
-            Refusal::NoFrame => "the pool has too few frames: release a region, then try again",
+            Refusal::NoFrame => "the pool has too few frames: release a region or give back a page, then try again",
             Refusal::NotOurs => "head or tables are not what these calls left: trust no page and start anew",
-            Refusal::NotResident => "the page is in a region, but absent: touch or write it first",
+            Refusal::NotResident => "the page is in a region, but absent: touch or write it before it is read; there is nothing to give back",
             Refusal::NoRoom => "fewer records than regions: lend more records",
             Refusal::NoMap => "the bytes are no map file: read it again, all of it and nothing more, or start",
             Refusal::NoMapRoom => "the buffer is shorter than the map: lend as many bytes as the sizes need",
@@ -264,7 +264,7 @@ pub struct Memory<'a> {
     pub table: &'a mut [u32],
     /// Where in its region's stack a page is.
     pub helper: &'a mut [u32],
-    /// The pages of each region in the order in which they were mapped.
+    /// The list of each region's pages, the newest last.
     pub stack: &'a mut [u32],
     /// The region of each page, as last found.
     pub cache: &'a mut [u32],
@@ -419,7 +419,20 @@ impl<'a> Pager<'a> {
         Ok(answer.value_of(raw::PAGES)? as u32)
     }
 
-    /// How many frames the pool has. Nothing is freed: that is [`Pager::release`].
+    /// Gives back one page, in constant time, as when a corrected page has made it useless; the other pages of its region stay. Its
+    /// frame goes to the front of the pool, so that the next new page gets it. The region's newest page, which is the last in its list,
+    /// takes the position of the page there; if it is the newest itself, the list just gets shorter. Release and map go by that list,
+    /// whatever was mapped when. The start stays, also where the region is empty then, and so do the bytes. Refused with
+    /// [`Refusal::NoRegion`] for a page without a region, and with [`Refusal::NotResident`] for one that is absent.
+    pub fn give_back(&mut self, space: u32, page: u32) -> Result<(), Refusal> {
+        let m = &mut self.memory;
+        let answer = lend!(corwystal_give_back(&mut self.head, space, page;
+            as_ptr m.index, as_mut_ptr m.count, as_ptr m.table, as_mut_ptr m.helper, as_mut_ptr m.stack,
+            as_ptr m.cache, as_mut_ptr m.link));
+        answer.done()
+    }
+
+    /// How many frames the pool has. Nothing is freed: that is [`Pager::release`] and [`Pager::give_back`].
     pub fn free_count(&self) -> Result<u32, Refusal> {
         let answer = unsafe { raw::corwystal_free_count(&self.head) };
         Ok(answer.value_of(raw::FRAMES)? as u32)
@@ -638,6 +651,26 @@ mod raw {
             table_len: usize,
             stack: *const u32,
             stack_len: usize,
+            link: *mut u32,
+            link_len: usize,
+        ) -> Answer;
+
+        pub fn corwystal_give_back(
+            head: *mut Head,
+            space: u32,
+            page: u32,
+            index: *const u64,
+            index_len: usize,
+            count: *mut u32,
+            count_len: usize,
+            table: *const u32,
+            table_len: usize,
+            helper: *mut u32,
+            helper_len: usize,
+            stack: *mut u32,
+            stack_len: usize,
+            cache: *const u32,
+            cache_len: usize,
             link: *mut u32,
             link_len: usize,
         ) -> Answer;

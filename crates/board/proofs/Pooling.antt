@@ -60,7 +60,7 @@ abbrev pub changed : Change → Head → Head → Head
 changed all h h′ = h′
 changed (numbers is) h h′ = withNumbers is h h′
 
--- what a touch or a write may change, and what a release may: none of the frames that it gives back is one that was never used
+-- what a touch or a write may change, and what a release or a hand-back may: no frame given back is one that was never used
 abbrev pub pool : Change
 pool = numbers (first ∷ many ∷ fresh ∷ [])
 

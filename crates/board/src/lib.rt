@@ -1,11 +1,12 @@
 // The board's entrance: the pager's calls with the head lent and changed in place.
-// Only a start and the reading of a map store the whole head. The other calls leave the sizes, and a release the first frame
-// never used too, so they store no more than may change: the compiler can't tell head from tables, and would store all.
+// Only a start and the reading of a map store the whole head. The other calls leave the sizes, a release and a hand-back the first
+// frame never used too, so they store no more than may change: the compiler can't tell head from tables, and would store all.
 use listing::last_region;
 use listing::survey;
 use machine::Copied;
 use machine::Done;
 use machine::Free;
+use machine::GivenBack;
 use machine::Listed;
 use machine::Looked;
 use machine::MapWritten;
@@ -17,7 +18,7 @@ use memory::Head;
 ghost use mathlib.Core.List.{List};
 ghost use Prim.Native.Nat.{ℕ};
 ghost use Rattle.machine.specs.Machine as machine;
-ghost use Rattle.machine.specs.Answers.{doneSays, freeSays, touchedSays, lookedSays, releasedSays, translatedSays};
+ghost use Rattle.machine.specs.Answers.{doneSays, freeSays, touchedSays, lookedSays, releasedSays, givenBackSays, translatedSays};
 ghost use Rattle.memory.specs.Memory.{memory};
 ghost use Rattle.promise.specs.Did.{Did};
 ghost use Rattle.promise.specs.Filled.{ReadDid, RecordsDid, MapDid};
@@ -161,6 +162,44 @@ pub fn release(
     head.first = released.head.first;
     head.many = released.head.many;
     released.answer
+}
+
+// Hands one page back, in constant time: its region's newest page takes its position, its frame goes to the pool's front.
+pub fn give_back(
+    head: &mut Head,
+    space: u32,
+    page: u32,
+    index: &[u64],
+    count: &mut [u32],
+    table: &[u32],
+    helper: &mut [u32],
+    stack: &mut [u32],
+    cache: &[u32],
+    link: &mut [u32],
+) -> GivenBack
+    ensures { λ r. ⌜ ((ram : List ℕ) →
+        Did (machine.giveBack space page)
+        (memory (now (head .entry)) (now (index .entry)) (now (count .entry)) (now (table .entry)) (now (helper .entry)) (now (stack .entry))
+        (now (cache .entry)) (now (link .entry)) ram)
+        (givenBackSays r)
+        (memory (now (head .exit)) (now (index .entry)) (now (count .exit)) (now (table .entry)) (now (helper .exit)) (now (stack .exit))
+        (now (cache .entry)) (now (link .exit)) ram)) ⌝ }
+{
+    let given = giving::give_back(
+        *head,
+        space,
+        page,
+        index,
+        count,
+        table,
+        helper,
+        stack,
+        cache,
+        link,
+    );
+    head.first = given.head.first;
+    head.many = given.head.many;
+    given.answer
 }
 
 // The frames in the pool. Lent nothing but the head.

@@ -1,5 +1,5 @@
 // Plays encoded calls on real buffers: document 01's session, then a write, reads, a list, codes that are no calls,
-// and the map, written and read back. Writes three numbers a call, then the byte buffer and the records.
+// the map, written and read back, and hand-backs. Writes three numbers a call, then the byte buffer and the records.
 use memory::no_start;
 
 fn number(n: u64) {
@@ -206,8 +206,43 @@ fn main() {
         72,
         0,
         0,
+        14,
+        0,
+        1,
+        0,
+        0,
+        14,
+        0,
+        1,
+        0,
+        0,
+        14,
+        0,
+        9,
+        0,
+        0,
+        14,
+        4294967296,
+        0,
+        0,
+        0,
+        7,
+        0,
+        0,
+        0,
+        0,
+        4,
+        0,
+        5,
+        0,
+        0,
+        6,
+        0,
+        0,
+        0,
+        0,
     ];
-    let mut replies = [7u64; 101];
+    let mut replies = [7u64; 122];
     let mut bytes = [9u8; 88];
     bytes[0] = 104;
     bytes[1] = 101;

@@ -9,10 +9,12 @@ ghost use Prim.Native.Nat.{ℕ};
 ghost use lib.ListN.{take};
 ghost use Rattle.machine.specs.Machine as machine;
 ghost use Rattle.machine.specs.Answers.{doneSays, freeSays, touchedSays, lookedSays, releasedSays, translatedSays, copiedSays, listedSays, mapWrittenSays};
+ghost use Rattle.machine.specs.Answers.{givenBackSays};
 ghost use Rattle.machine.specs.declared.Done.{Done};
 ghost use Rattle.machine.specs.declared.Touched.{Touched};
 ghost use Rattle.machine.specs.declared.Looked.{Looked};
 ghost use Rattle.machine.specs.declared.Released.{Released};
+ghost use Rattle.machine.specs.declared.GivenBack.{GivenBack};
 ghost use Rattle.machine.specs.declared.Free.{Free};
 ghost use Rattle.machine.specs.declared.Translated.{Translated};
 ghost use Rattle.machine.specs.declared.Copied.{Copied};
@@ -188,6 +190,43 @@ pub extern "C" fn corwystal_release(
         ⌝ }
 {
     requests::encode_released(board::release(head, space, page, index, count, table, stack, link))
+}
+
+// Hands one page back, in constant time: its region's newest page takes its position, its frame goes to the pool's front.
+#[no_mangle]
+pub extern "C" fn corwystal_give_back(
+    head: &mut Head,
+    space: u32,
+    page: u32,
+    index: &[u64],
+    count: &mut [u32],
+    table: &[u32],
+    helper: &mut [u32],
+    stack: &mut [u32],
+    cache: &[u32],
+    link: &mut [u32],
+) -> Answer
+    ensures { λ r. ⌜ Encodes GivenBack givenBackSays (λ a.
+        (ram : List ℕ) →
+        Did (machine.giveBack space page)
+        (memory (now (head .entry)) (now (index .entry)) (now (count .entry)) (now (table .entry)) (now (helper .entry)) (now (stack .entry))
+        (now (cache .entry)) (now (link .entry)) ram)
+        (givenBackSays a)
+        (memory (now (head .exit)) (now (index .entry)) (now (count .exit)) (now (table .entry)) (now (helper .exit)) (now (stack .exit))
+        (now (cache .entry)) (now (link .exit)) ram)) r ⌝ }
+{
+    requests::encode_given_back(board::give_back(
+        head,
+        space,
+        page,
+        index,
+        count,
+        table,
+        helper,
+        stack,
+        cache,
+        link,
+    ))
 }
 
 // The frames in the pool. Lent nothing but the head.

@@ -3,7 +3,7 @@ use mathlib.Core.Bool.{Bool, cond, _&&_}
 use Prim.Native.Nat.{ℕ, _+_, _-_}
 use lib.Dec.{eqb, leb, ltb}
 use Rattle.machine.specs.declared.PageCall.{PageCall}
-use Rattle.machine.specs.declared.PageCall.the-variants.{Mark, Drop, Touch, Look, Release}
+use Rattle.machine.specs.declared.PageCall.the-variants.{Mark, Drop, Touch, Look, Release, GiveBack}
 use Rattle.requests.specs.declared.Request.{Request}
 use Rattle.requests.specs.declared.Request.the-variants as request-is
 use Rattle.decoding.specs.declared.Parts.{Parts}
@@ -60,7 +60,8 @@ pageKind kind =
     (cond (eqb kind 3) (Page Drop)
     (cond (eqb kind 4) (Page Touch)
     (cond (eqb kind 5) (Page Look)
-    (cond (eqb kind 6) (Page Release) Other))))
+    (cond (eqb kind 6) (Page Release)
+    (cond (eqb kind 14) (Page GiveBack) Other)))))
 
 -- given how many bytes and how many numbers of records there are
 abbrev pub decodedAs : Kind → ℕ → ℕ → ℕ → ℕ → ℕ → ℕ → ℕ → Code

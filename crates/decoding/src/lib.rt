@@ -170,6 +170,7 @@ fn page_kind(kind: u64) -> Kind
         4 => Kind::Page(PageCall::Touch),
         5 => Kind::Page(PageCall::Look),
         6 => Kind::Page(PageCall::Release),
+        14 => Kind::Page(PageCall::GiveBack),
         _ => Kind::Other,
     }
 }

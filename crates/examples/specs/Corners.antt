@@ -6,7 +6,7 @@ use Rattle.machine.specs.Machine.{sizes, Lent, Call, start, mark, drop, touch, 
 use Rattle.machine.specs.Machine.{resident, absent, pages, frames, at, bytes, regions, refused, refusedAfter}
 use Rattle.examples.specs.Session.{all, played}
 
-abbrev says : List Call → List Answer → Type 0
+abbrev pub says : List Call → List Answer → Type 0
 says calls expected = played calls ≡ expected
 
 abbrev pub nothing : Lent

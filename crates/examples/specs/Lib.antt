@@ -1,3 +1,4 @@
 pub mod Session
 pub mod Corners
 pub mod Maps
+pub mod HandBacks

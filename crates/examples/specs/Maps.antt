@@ -17,7 +17,7 @@ use Rattle.examples.specs.Corners.{nothing}
 -- ---- lines
 
 -- an answer cut into parts: sizes, a row for each space and the pool, then regions and the pool
-abbrev joined : List String → List ℕ
+abbrev pub joined : List String → List ℕ
 joined [] = []
 joined (s ∷ ss) = codes s ++ joined ss
 

@@ -12,7 +12,7 @@ use Rattle.sequence.specs.Lists.{tabulate}
 use Rattle.places.specs.Places.{lastBelow, wordsRead, size}
 use Rattle.machine.specs.Machine.{sizes, Lent, State, unstarted, Call, start, mark, drop, touch, look, release, Answer, done, old, new, absent, pages}
 use Rattle.machine.specs.Machine.{refused, refusedAfter, answers, afterAll, step, asked, accepted, sizesOk, isPageSize, enough, startIn, frameIn}
-use Rattle.machine.specs.Machine.{firstAbsence, anyOutside, countAbsent, touchAll, zeroed, storedAt, untilStart, records}
+use Rattle.machine.specs.Machine.{firstAbsence, anyOutside, countAbsent, touchAll, zeroed, indexIn, storedAt, untilStart, records}
 use Rattle.fields.specs.Fields.{begins, digitsAfter}
 use Rattle.parsing.specs.Grammar.{parsed}
 use Rattle.digits.specs.Text.{decimalWith}
@@ -51,7 +51,7 @@ ram = replicate 768 7
 -- the answers from no start made, with every definition open
 unfoldable pub played : List Call → List Answer
 unfolding answers step asked accepted sizesOk isPageSize enough size tabulate startIn lastBelow frameIn wordsRead firstAbsence anyOutside countAbsent
-    touchAll zeroed storedAt untilStart records
+    touchAll zeroed indexIn storedAt untilStart records
 played calls = answers (unstarted ram) calls
 
 session-says :

@@ -5,9 +5,9 @@ use Prim.Native.Nat.{ℕ, zero, suc}
 use native.Mathlib.Omega.{arith}
 use lib.ListN.{length}
 use Rattle.machine.specs.Machine.{Lent, Call, start, page, free, translate, read, write, list, writeMap, readMap, facts, Effect}
-use Rattle.machine.specs.Machine.{unchanged, prepared, refilled, startPut, pageMapped, regionEmptied, spanStored, asked, Answer, Sizes}
+use Rattle.machine.specs.Machine.{unchanged, prepared, refilled, startPut, pageMapped, regionEmptied, pageGivenBack, spanStored, asked, Answer, Sizes}
 use Rattle.machine.specs.Laws.Calls.{map-described}
-use Rattle.machine.specs.declared.PageCall.the-variants.{Mark, Drop, Touch, Look, Release}
+use Rattle.machine.specs.declared.PageCall.the-variants.{Mark, Drop, Touch, Look, Release, GiveBack}
 use Rattle.memory.specs.Memory.{Memory, sizesOf, lengths}
 use Rattle.promise.specs.Did.{Exactly, still, Tables, Writes, BoundsBy, Did}
 use Rattle.promise.specs.Refuses.{zeroed-all-long}
@@ -69,6 +69,7 @@ lengths-by (refilled z) n k k′ b = λ j.
 lengths-by (startPut i p) n k k′ b = tables-long (b .words)
 lengths-by (pageMapped i p) n k k′ b = writes-long b
 lengths-by (regionEmptied i p) n k k′ b = tables-long b
+lengths-by (pageGivenBack i p) n k k′ b = tables-long (b .words)
 lengths-by (spanStored i x vs) n k k′ b = writes-long b
 
 pub lengths-stay : (c : Lent → Call) (k : Memory) (a : Answer) (k′ : Memory) → Did c k a k′ → lengths k′ ≡ lengths k
@@ -83,6 +84,7 @@ sizes-by (refilled z) n k k′ p b = absurd p
 sizes-by (startPut i q) n k k′ p b = b .words .sizes
 sizes-by (pageMapped i q) n k k′ p b = b .maps .sizes
 sizes-by (regionEmptied i q) n k k′ p b = b .sizes
+sizes-by (pageGivenBack i q) n k k′ p b = b .words .sizes
 sizes-by (spanStored i x vs) n k k′ p b = b .maps .sizes
 
 -- only what begins a state prepares one
@@ -93,6 +95,7 @@ prepares-nothing z (page Drop i b l) p e = tt
 prepares-nothing z (page Touch i b l) p e = tt
 prepares-nothing z (page Look i b l) p e = tt
 prepares-nothing z (page Release i b l) p e = tt
+prepares-nothing z (page GiveBack i b l) p e = tt
 prepares-nothing z free p e = tt
 prepares-nothing z (translate i x l) p e = tt
 prepares-nothing z (read i x n l) p e = tt

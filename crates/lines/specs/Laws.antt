@@ -87,6 +87,7 @@ shown-fits (reply-is.Regions n) bytes records records′ e =
 shown-fits (reply-is.Map n) bytes records records′ e = omega arith
 shown-fits (reply-is.Refused k) bytes records records′ e = omega arith
 shown-fits (reply-is.RefusedAfter k w) bytes records records′ e = omega arith
+shown-fits reply-is.Handed bytes records records′ e = omega arith
 
 module _ (line : List ℕ) (k : Memory) (at : ℕ) (out buffer records : List ℕ) (end : ℕ) (k′ : Memory) (out′ buffer′ records′ : List ℕ) where
   -- the machine's answer is known

@@ -33,20 +33,33 @@ not-found lo f (found-is.Start a c) e = go (leb lo a) e
 not-found lo f (found-is.Missing c) e = let z : _≡_ {A = ℕ} 0 1 = cc in omega arith
 not-found lo f (found-is.Refused k c) e = let z : _≡_ {A = ℕ} 0 1 = cc in omega arith
 
-frame-below : (f t lo p : ℕ) (ws table : List ℕ) (x : Bool) (g : ℕ) → SeenIf x f t lo p ws table (sight-is.Mapped g) → g < f
-frame-below f t lo p ws table false g s = absurd (not-found lo g (s .found) (s .seen))
-frame-below f t lo p ws table true g s = go (ltb (at table p) f) refl s
+-- a page that is seen with a frame passed the test of a resident one, and the frame is the page table's
+pub record SeenFrame (x : Bool) (f p : ℕ) (table : List ℕ) (g : ℕ) : Type 0 where
+  pub resident : x ≡ true
+  pub frame-is : g ≡ at table p
+  pub below : g < f
+
+frame-seen : (f t lo p : ℕ) (ws table : List ℕ) (x : Bool) (g : ℕ) → SeenIf x f t lo p ws table (sight-is.Mapped g) → SeenFrame x f p table g
+frame-seen f t lo p ws table false g s = absurd (not-found lo g (s .found) (s .seen))
+frame-seen f t lo p ws table true g s = go (ltb (at table p) f) refl s
   where
-    go : (x : Bool) → ltb (at table p) f ≡ x → sight-is.Mapped g ≡ sightMapped (at table p) x → g < f
-    go true l e = let same : g ≡ at table p = cc in omega (arith, ltb-true (at table p) f l)
+    go : (x : Bool) → ltb (at table p) f ≡ x → sight-is.Mapped g ≡ sightMapped (at table p) x → SeenFrame true f p table g
+    go true l e =
+        let same : g ≡ at table p = cc in
+        record { resident = refl; frame-is = same; below = omega (arith, ltb-true (at table p) f l) }
     go false l e = absurd (let z : _≡_ {A = ℕ} 0 1 = cc in omega arith)
 
-pub seen-below : (k : Memory) (i b f : ℕ) → SeenAt k i b (sight-is.Mapped f) → f < k .head .frames
+pub seen-frame : (k : Memory) (i b f : ℕ) → SeenAt k i b (sight-is.Mapped f)
+    → let z = sizesOf (k .head) in
+    SeenFrame (residentOk (k .count) (k .helper) (k .stack) (k .cache) (places z) (placeOf z i b)) (z .frames) (placeOf z i b) (k .table) f
 unfolding Seen
-seen-below k i b f seen =
+seen-frame k i b f seen =
     let z = sizesOf (k .head) in
     let p = placeOf z i b in
-    frame-below (z .frames) (places z) (placeOf z i 0) p (k .index) (k .table) (residentOk (k .count) (k .helper) (k .stack) (k .cache) (places z) p) f seen
+    frame-seen (z .frames) (places z) (placeOf z i 0) p (k .index) (k .table) (residentOk (k .count) (k .helper) (k .stack) (k .cache) (places z) p) f seen
+
+pub seen-below : (k : Memory) (i b f : ℕ) → SeenAt k i b (sight-is.Mapped f) → f < k .head .frames
+seen-below k i b f seen = seen-frame k i b f seen .below
 
 look-later : (k : Memory) (i b : ℕ) (l : Lent) (s : Sight) → SeenAt k i b s → Later (sizesOf (k .head)) (look i b l) (lookSays s)
 look-later k i b l (sight-is.Mapped f) seen = (refl, seen-below k i b f seen)

@@ -51,11 +51,15 @@ pub record Pair : Type 0 where
   pub place : ℕ
   pub frame : ℕ
 
+-- the pair that stands past a list's end
+abbrev pub noPair : Pair
+noPair = record { place = 0; frame = 0 }
+
 pub record State : Type 0 where
   pub sizes : Sizes
   -- whether each place is a start
   pub starts : List Bool
-  -- at each start's place its region's pairs "in order of mapping", elsewhere none
+  -- at each start's place its region's pairs "in order of mapping", elsewhere none; the last is the newest, which a hand-back moves (W-205)
   pub held : List (List Pair)
   pub pool : List ℕ
   pub ram : List ℕ

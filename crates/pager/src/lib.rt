@@ -16,6 +16,9 @@ pub use pool::free;
 pub use touching::touch;
 // Gives back every page of the region that starts at a page, in constant time: Pages. Refused: 1, 2, 3; 5, the page is no start; 9.
 pub use releasing::release;
+// Hands one page back, in constant time; its region's newest page takes its position, its frame goes to the pool's front: Done. Refused: 1, 2, 3;
+// 4, no region; 10, the page is absent; 9.
+pub use giving::give_back;
 // The place in RAM of an address: At. Refused: 1, 2, 3; 4, no region; 10, the page is absent; 9.
 pub use translating::translate;
 // The bytes of a span into the caller's buffer: Copied. Refused, as for the first page that isn't resident: 1, 2, 3; 4; 10; 9.

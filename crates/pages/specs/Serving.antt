@@ -7,7 +7,7 @@ use lib.ListN.{length, take, take-append-drop}
 use lib.Seq.{length-take-le}
 use Rattle.machine.specs.Machine.{Answer}
 use Rattle.machine.specs.Answers.{doneSays, touchedSays, lookedSays, releasedSays, freeSays, translatedSays, copiedSays, listedSays}
-use Rattle.machine.specs.Answers.{mapWrittenSays}
+use Rattle.machine.specs.Answers.{mapWrittenSays, givenBackSays}
 use Rattle.machine.specs.declared.Done as ended
 use Rattle.machine.specs.declared.Done.the-variants as done-is
 use Rattle.machine.specs.declared.Touched as touched
@@ -16,6 +16,8 @@ use Rattle.machine.specs.declared.Looked as looked
 use Rattle.machine.specs.declared.Looked.the-variants as looked-is
 use Rattle.machine.specs.declared.Released as released
 use Rattle.machine.specs.declared.Released.the-variants as released-is
+use Rattle.machine.specs.declared.GivenBack as given
+use Rattle.machine.specs.declared.GivenBack.the-variants as given-is
 use Rattle.machine.specs.declared.Free as free
 use Rattle.machine.specs.declared.Free.the-variants as free-is
 use Rattle.machine.specs.declared.Translated as translated
@@ -67,6 +69,11 @@ module _ (q : Request) (k : Memory) (buffer records : List ℕ) (r : Reply) (k�
       → Serves q k buffer records r k′ buffer records
   released-serves (released-is.Pages n) = kept _ refl refl
   released-serves (released-is.Refused n) = kept _ refl refl
+
+  pub given-serves : (a : given.GivenBack) → Did (requested q buffer records) k (givenBackSays a) k′ → ((b ws : List ℕ) → replied r b ws ≡ givenBackSays a)
+      → Serves q k buffer records r k′ buffer records
+  given-serves given-is.Done = kept _ refl refl
+  given-serves (given-is.Refused n) = kept _ refl refl
 
   pub free-serves : (a : free.Free) → Did (requested q buffer records) k (freeSays a) k′ → ((b ws : List ℕ) → replied r b ws ≡ freeSays a)
       → Serves q k buffer records r k′ buffer records

@@ -1,7 +1,8 @@
-// The five calls on a page as one: which of them in, a reply out.
+// The six calls on a page as one: which of them in, a reply out.
 use machine::PageCall;
 use memory::Head;
 use pager::drop;
+use pager::give_back;
 use pager::look;
 use pager::mark;
 use pager::release;
@@ -94,6 +95,26 @@ pub fn serve_page(
             Served {
                 head,
                 reply: requests::of_released(a),
+            }
+        }
+        PageCall::GiveBack => {
+            let out = give_back(
+                head,
+                space,
+                page,
+                index,
+                count,
+                table,
+                helper,
+                stack,
+                cache,
+                link,
+            );
+            let head = out.head;
+            let a = out.answer;
+            Served {
+                head,
+                reply: requests::of_given_back(a),
             }
         }
     }

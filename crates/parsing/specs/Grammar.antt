@@ -5,7 +5,7 @@ use Prim.Native.Nat.{ℕ, _+_, _*_}
 use lib.Dec.{leb}
 use lib.ListN.{length, drop}
 use Rattle.machine.specs.declared.PageCall.{PageCall}
-use Rattle.machine.specs.declared.PageCall.the-variants.{Mark, Drop, Touch, Look, Release}
+use Rattle.machine.specs.declared.PageCall.the-variants.{Mark, Drop, Touch, Look, Release, GiveBack}
 use Rattle.fields.specs.Fields.{begins, FieldTaken, nothing, number, fieldAt}
 use Rattle.hex.specs.declared.Bytes.{Bytes}
 use Rattle.hex.specs.declared.Bytes.the-variants.{Count, Wrong}
@@ -96,6 +96,10 @@ lookWord = 108 ∷ 111 ∷ 111 ∷ 107 ∷ []
 abbrev pub releaseWord : List ℕ
 releaseWord = 114 ∷ 101 ∷ 108 ∷ 101 ∷ 97 ∷ 115 ∷ 101 ∷ []
 
+-- give
+abbrev pub giveWord : List ℕ
+giveWord = 103 ∷ 105 ∷ 118 ∷ 101 ∷ []
+
 -- free
 abbrev pub freeWord : List ℕ
 freeWord = 102 ∷ 114 ∷ 101 ∷ 101 ∷ []
@@ -128,6 +132,7 @@ pageNames =
     (touchWord, Touch) ∷
     (lookWord, Look) ∷
     (releaseWord, Release) ∷
+    (giveWord, GiveBack) ∷
     []
 
 -- what a line was found to name, else this call if it begins with its name

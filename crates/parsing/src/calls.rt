@@ -171,7 +171,8 @@ fn page_named(line: &[u8]) -> Named
     let found = or_named(found, line, b"drop", PageCall::Drop);
     let found = or_named(found, line, b"touch", PageCall::Touch);
     let found = or_named(found, line, b"look", PageCall::Look);
-    or_named(found, line, b"release", PageCall::Release)
+    let found = or_named(found, line, b"release", PageCall::Release);
+    or_named(found, line, b"give", PageCall::GiveBack)
 }
 
 // The call that a line is, or that it is none.

@@ -48,7 +48,7 @@ frames-cons x xs = simp (reverse-cons, map-append)
 pub frames-snoc : (xs : List Pair) (x : Pair) → framesOf (reverse (xs ++ (x ∷ []))) ≡ x .frame ∷ framesOf (reverse xs)
 frames-snoc xs x = simp reverse-append
 
-times-newest : (f : ℕ) (xs : List Pair) → timesIn f (framesOf (reverse xs)) ≡ sum (λ x. hit f (x .frame)) xs
+pub times-newest : (f : ℕ) (xs : List Pair) → timesIn f (framesOf (reverse xs)) ≡ sum (λ x. hit f (x .frame)) xs
 times-newest f xs = sum-map (hit f) (λ (x : Pair). x .frame) (reverse xs) ∙ sum-reverse (λ (x : Pair). hit f (x .frame)) xs
 
 -- the first of them is that of the last pair

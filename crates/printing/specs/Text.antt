@@ -2,11 +2,11 @@
 use mathlib.Core.List.{List, _++_}
 use Prim.Native.Nat.{ℕ}
 use lib.ListN.{length}
-use Rattle.machine.specs.Machine.{Answer, done, old, new, resident, absent, pages, frames, at, bytes, regions, mapFile, refused, refusedAfter}
+use Rattle.machine.specs.Machine.{Answer, done, old, new, resident, absent, pages, frames, at, bytes, regions, mapFile, handed, refused, refusedAfter}
 use Rattle.requests.specs.Requests.{regionNumbers}
 use Rattle.digits.specs.Text.{decimal, hexText, numbersText, blank}
 use Rattle.texts.specs.Text.{okWord, frameWord, oldWord, newWord, residentWord, noWords, absentWord, pagesWord, freeWord, atWord, bytesWord, bytesText}
-use Rattle.texts.specs.Text.{regionsWord, mapWord, noWord}
+use Rattle.texts.specs.Text.{regionsWord, mapWord, doneWord, noWord}
 
 abbrev pub text : Answer → List ℕ
 text done = okWord
@@ -20,6 +20,8 @@ text (at p) = atWord ++ decimal p
 text (bytes vs) = bytesWord ++ bytesText vs
 text (regions rs) = regionsWord ++ (decimal (length rs) ++ numbersText (regionNumbers rs))
 text (mapFile vs) = mapWord ++ hexText vs
+-- W-205: "The answer is only" this
+text handed = doneWord
 text (refused k) = noWord ++ decimal k
 -- "for touch and look then the index words"
 text (refusedAfter k w) = noWord ++ (decimal k ++ (blank ++ decimal w))

@@ -25,6 +25,7 @@ shown (reply-is.Regions n) = 3 * n
 shown (reply-is.Map n) = 0
 shown (reply-is.Refused k) = 0
 shown (reply-is.RefusedAfter k w) = 0
+shown reply-is.Handed = 0
 
 -- a session's longest answers are a map and the 3,072 numbers of 1,024 regions; 65,536 have room for a word and 32,736 bytes, two digits each, and for
 -- these numbers, at most 20 digits and a blank each

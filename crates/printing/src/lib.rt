@@ -3,6 +3,7 @@ use requests::Reply;
 use texts::put_absent;
 use texts::put_at;
 use texts::put_bytes;
+use texts::put_done;
 use texts::put_free;
 use texts::put_map;
 use texts::put_new;
@@ -56,6 +57,7 @@ pub fn say(out: &mut [u8], at: usize, reply: Reply, bytes: &[u8], records: &[u32
         Reply::Map(n) => put_map(out, at, bytes, n),
         Reply::Refused(k) => put_no(out, at, k),
         Reply::RefusedAfter(k, w) => put_refusal(out, at, k, w),
+        Reply::Handed => put_done(out, at),
     }
 }
 

@@ -7,13 +7,13 @@ use Prim.Native.Nat.{ℕ, zero, suc, _+_, _*_, _/_, _≤_, _<_}
 use native.Mathlib.Omega.{arith}
 use lib.ListN.{length, getD, drop as dropped}
 use Rattle.sequence.specs.Lists.{Each, Changed}
-use Rattle.sequence.specs.Changes.{changed-zero, changed-then}
+use Rattle.sequence.specs.Changes.{changed-zero, changed-then, changed-more}
 use Rattle.machine.specs.Machine.{Sizes, placeOf, State, begun, spanPages, Lent, Call, start, mark, touch, look, release, write, facts, asked, answer, after}
 use Rattle.machine.specs.Machine.{refusal}
 use Rattle.machine.specs.Machine.{Kind, ended, touched, looked, released, counted, translated, copied, listed, refusalOf, Answer, done, old, new, resident}
 use Rattle.machine.specs.Machine.{absent, pages, frames, at, bytes, regions, refused, refusedAfter, Effect, unchanged, prepared, refilled, startPut}
 use Rattle.machine.specs.Machine.{places, writeMap, readMap, lends, everyTable, lentOk, firstOf, fileFirst}
-use Rattle.machine.specs.Machine.{pageMapped, mapWritten, mapFile, regionEmptied, spanStored, zeroed}
+use Rattle.machine.specs.Machine.{pageMapped, mapWritten, mapFile, regionEmptied, pageGivenBack, spanStored, zeroed, giveBack, handed, givenBack}
 use Rattle.words.specs.Words.{wordsIn}
 use Rattle.machine.specs.Map.{sizesIn}
 use Rattle.machine.specs.MapRules.{contentsOk, fileOk}
@@ -47,6 +47,7 @@ Own z q (at p) = (q ≡ translated) × (p < z .frames * z .page)
 Own z q (bytes vs) = q ≡ copied
 Own z q (regions rs) = q ≡ listed
 Own z q (mapFile vs) = q ≡ mapWritten
+Own z q handed = q ≡ givenBack
 Own z q (refused n) = refusalOf q n ≡ refused n
 Own z q (refusedAfter n w) = refusalOf q n ≡ refusedAfter n 0
 
@@ -60,6 +61,7 @@ own-refusal z translated n = (refl, refl)
 own-refusal z copied n = (refl, refl)
 own-refusal z listed n = (refl, refl)
 own-refusal z mapWritten n = (refl, refl)
+own-refusal z givenBack n = (refl, refl)
 
 own-later : (z : Sizes) (c : Call) (a : Answer) → Later z c a → Own z (facts c .kind) a
 own-later z c done l = l
@@ -73,6 +75,7 @@ own-later z c (at p) l = l
 own-later z c (bytes vs) l = l
 own-later z c (regions rs) l = l
 own-later z c (mapFile vs) l = l
+own-later z c handed l = l
 own-later z c (refused n) l = l .1
 own-later z c (refusedAfter n w) l = l .1
 
@@ -95,6 +98,7 @@ within (refilled z) k k′ = memory (k′ .head) (k′ .index) (k′ .count) (k�
 within (startPut i b) k k′ = memory (k .head) (k′ .index) (k .count) (k .table) (k .helper) (k .stack) (k .cache) (k .link) (k .ram)
 within (pageMapped i b) k k′ = memory (k′ .head) (k .index) (k′ .count) (k′ .table) (k′ .helper) (k′ .stack) (k′ .cache) (k′ .link) (k′ .ram)
 within (regionEmptied i b) k k′ = memory (k′ .head) (k .index) (k′ .count) (k .table) (k .helper) (k .stack) (k .cache) (k′ .link) (k .ram)
+within (pageGivenBack i b) k k′ = memory (k′ .head) (k .index) (k′ .count) (k .table) (k′ .helper) (k′ .stack) (k .cache) (k′ .link) (k .ram)
 within (spanStored i x vs) k k′ = memory (k′ .head) (k .index) (k′ .count) (k′ .table) (k′ .helper) (k′ .stack) (k′ .cache) (k′ .link) (k′ .ram)
 
 -- 0 words that changed are none
@@ -120,6 +124,9 @@ within-by (regionEmptied i p) n k k′ b = let e = refl in λ j.
     memory (k′ .head) (words-same e (b .index) j) (k′ .count) (words-same e (b .table) j) (words-same e (b .helper) j) (words-same e (b .stack) j)
     (words-same e (b .cache) j) (k′ .link)
     (b .ram j)
+within-by (pageGivenBack i p) n k k′ b = let w = b .words in let e = refl in λ j.
+    memory (k′ .head) (words-same e (w .index) j) (k′ .count) (words-same e (w .table) j) (k′ .helper) (k′ .stack) (words-same e (w .cache) j) (k′ .link)
+    (w .ram j)
 within-by (spanStored i x vs) n k k′ b = λ j.
     memory (k′ .head) (b .maps .index j) (k′ .count) (k′ .table) (k′ .helper) (k′ .stack) (k′ .cache) (k′ .link) (k′ .ram)
 
@@ -223,6 +230,22 @@ module _ (i b : ℕ) (k : Memory) (a : Answer) (k′ : Memory) where
 
   pub release-few : Did (release i b) k a k′ → Changed 1 (k .count) (k′ .count) × Changed 1 (k .link) (k′ .link)
   release-few d = (d .bounds .count .few, d .bounds .link .few)
+
+  -- W-205: "At most six table words and the head change"; no frame is lost, and one more at most is free
+  pub give-few : Did (giveBack i b) k a k′
+      → Changed 1 (k .count) (k′ .count) × Changed 1 (k .helper) (k′ .helper) × Changed 1 (k .stack) (k′ .stack) × Changed 3 (k .link) (k′ .link)
+  give-few d =
+      let g = d .bounds in
+      let w = g .words in
+      let few = g .few in (
+        changed-more few (w .count .few),
+        changed-more few (w .helper .few),
+        changed-more few (w .stack .few),
+        changed-more (omega (arith, few)) (w .link .few),
+      )
+
+  pub give-one : Did (giveBack i b) k a k′ → (n : ℕ) × (n ≤ 1) × (framesLeft (k′ .head) ≡ framesLeft (k .head) + n)
+  give-one d = (d .bounds .given, d .bounds .few, d .bounds .back)
 
   -- the page table changes at the page's own place only
   pub touch-table : Did (touch i b) k a k′ → (p : ℕ) → p ≢ placeOf (sizesOf (k .head)) i b → getD (k′ .table) p 0 ≡ getD (k .table) p 0

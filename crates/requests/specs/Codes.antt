@@ -2,7 +2,7 @@
 use mathlib.Core.List.{List, [], _∷_}
 use Prim.Native.Nat.{ℕ}
 use lib.ListN.{length}
-use Rattle.machine.specs.Machine.{Answer, done, old, new, resident, absent, pages, frames, at, bytes, regions, mapFile, refused, refusedAfter}
+use Rattle.machine.specs.Machine.{Answer, done, old, new, resident, absent, pages, frames, at, bytes, regions, mapFile, handed, refused, refusedAfter}
 use Rattle.requests.specs.declared.Answer as coded
 
 abbrev pub encoded : Answer → List ℕ
@@ -17,6 +17,8 @@ encoded (at p) = 23 ∷ p ∷ 0 ∷ []
 encoded (bytes vs) = 24 ∷ length vs ∷ 0 ∷ []
 encoded (regions rs) = 25 ∷ length rs ∷ 0 ∷ []
 encoded (mapFile vs) = 26 ∷ length vs ∷ 0 ∷ []
+-- as of every call that has nothing to tell
+encoded handed = 16 ∷ 0 ∷ 0 ∷ []
 encoded (refused k) = k ∷ 0 ∷ 0 ∷ []
 encoded (refusedAfter k w) = k ∷ 0 ∷ w ∷ []
 

@@ -41,6 +41,7 @@ replied (reply-is.Regions n) buffer records = machine.regions (recordsIn n recor
 replied (reply-is.Map n) buffer records = machine.mapFile (take n buffer)
 replied (reply-is.Refused k) buffer records = machine.refused k
 replied (reply-is.RefusedAfter k w) buffer records = machine.refusedAfter k w
+replied reply-is.Handed buffer records = machine.handed
 
 -- ---- the caller's buffers
 
@@ -57,6 +58,7 @@ bytesInto (machine.at p) buffer = buffer
 bytesInto (machine.bytes vs) buffer = vs
 bytesInto (machine.regions rs) buffer = buffer
 bytesInto (machine.mapFile vs) buffer = vs ++ drop (length vs) buffer
+bytesInto machine.handed buffer = buffer
 bytesInto (machine.refused k) buffer = buffer
 bytesInto (machine.refusedAfter k w) buffer = buffer
 
@@ -78,5 +80,6 @@ recordsInto (machine.at p) records = records
 recordsInto (machine.bytes vs) records = records
 recordsInto (machine.regions rs) records = regionNumbers rs ++ drop (3 * length rs) records
 recordsInto (machine.mapFile vs) records = records
+recordsInto machine.handed records = records
 recordsInto (machine.refused k) records = records
 recordsInto (machine.refusedAfter k w) records = records

@@ -3,6 +3,7 @@ use machine::Copied;
 use machine::Done;
 use machine::Free;
 use machine::Fullness;
+use machine::GivenBack;
 use machine::Listed;
 use machine::Looked;
 use machine::MapWritten;
@@ -15,7 +16,7 @@ ghost use mathlib.Core.Path.{_≡_};
 ghost use Prim.Native.Nat.{ℕ};
 ghost use lib.ListN.{length, take};
 ghost use Rattle.machine.specs.Answers.{doneSays, touchedSays, lookedSays, releasedSays, freeSays, translatedSays, copiedSays, listedSays, mapWrittenSays};
-ghost use Rattle.machine.specs.Answers.{fullnessSays};
+ghost use Rattle.machine.specs.Answers.{fullnessSays, givenBackSays};
 ghost use Rattle.machine.specs.declared.Region.{Region};
 ghost use Rattle.promise.specs.Filled.{recordsIn, recordsFilled, bytesFilled};
 ghost use Rattle.requests.specs.Requests.{replied};
@@ -49,6 +50,7 @@ pub enum Reply {
     Map(u32),
     Refused(u32),
     RefusedAfter(u32, u32),
+    Handed,
 }
 
 // A reply as numbers: its kind or the number of its refusal, the index words read, and a value.
@@ -96,6 +98,15 @@ pub fn of_released(a: Released) -> Reply
     match a {
         Released::Pages(n) => Reply::Pages(n),
         Released::Refused(n) => Reply::Refused(n),
+    }
+}
+
+pub fn of_given_back(a: GivenBack) -> Reply
+    ensures { λ r. ⌜ ((buffer records : List ℕ) → replied r buffer records ≡ givenBackSays a) ⌝ }
+{
+    match a {
+        GivenBack::Done => Reply::Handed,
+        GivenBack::Refused(n) => Reply::Refused(n),
     }
 }
 
@@ -191,6 +202,7 @@ pub fn encode(reply: Reply, n: usize) -> Answer
         Reply::Map(k) => numbers(26, there(k, n), 0),
         Reply::Refused(k) => numbers(k, 0, 0),
         Reply::RefusedAfter(k, w) => numbers(k, 0, w),
+        Reply::Handed => numbers(16, 0, 0),
     }
 }
 
@@ -218,6 +230,12 @@ pub fn encode_released(a: Released) -> Answer
     ensures { λ r. ⌜ numbersOf r ≡ encoded (releasedSays a) ⌝ }
 {
     encode(of_released(a), 0)
+}
+
+pub fn encode_given_back(a: GivenBack) -> Answer
+    ensures { λ r. ⌜ numbersOf r ≡ encoded (givenBackSays a) ⌝ }
+{
+    encode(of_given_back(a), 0)
 }
 
 pub fn encode_free(a: Free) -> Answer

@@ -61,6 +61,10 @@ regionsWord = 114 ∷ 101 ∷ 103 ∷ 105 ∷ 111 ∷ 110 ∷ 115 ∷ 32 ∷ []
 abbrev pub mapWord : List ℕ
 mapWord = 109 ∷ 97 ∷ 112 ∷ 32 ∷ []
 
+-- `done`
+abbrev pub doneWord : List ℕ
+doneWord = 100 ∷ 111 ∷ 110 ∷ 101 ∷ []
+
 -- `no `
 abbrev pub noWord : List ℕ
 noWord = 110 ∷ 111 ∷ 32 ∷ []

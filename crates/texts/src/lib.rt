@@ -11,7 +11,7 @@ ghost use lib.ListN.{length, take};
 ghost use Rattle.digits.specs.Text.{decimal, hexText, numbersText, blank};
 ghost use Rattle.digits.specs.Writing.{Wrote};
 ghost use Rattle.texts.specs.Text.{okWord, badLine, frameWord, oldWord, newWord, residentWord, noWords, absentWord, pagesWord, freeWord, atWord};
-ghost use Rattle.texts.specs.Text.{bytesWord, bytesText, regionsWord, mapWord, noWord};
+ghost use Rattle.texts.specs.Text.{bytesWord, bytesText, regionsWord, mapWord, doneWord, noWord};
 
 // A call that has nothing to tell.
 pub fn put_ok(out: &mut [u8], at: usize) -> usize
@@ -113,6 +113,14 @@ pub fn put_map(out: &mut [u8], at: usize, bytes: &[u8], n: u32) -> usize
         return put_hex(out, next, bytes);
     }
     put_hex(out, next, &bytes[..k])
+}
+
+// A page that was handed back.
+pub fn put_done(out: &mut [u8], at: usize) -> usize
+    requires { ⌜ at + 64 ≤ length (now out) ⌝ }
+    ensures { λ r. ⌜ Wrote at (now (out .entry)) doneWord r (now (out .exit)) ⌝ }
+{
+    put(out, at, b"done")
 }
 
 // A refusal.

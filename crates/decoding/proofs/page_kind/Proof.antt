@@ -19,15 +19,19 @@ returns-5 : tie.Need-returns-5
 returns-5 c = rw (c .match .keys5)
 
 returns-6 : tie.Need-returns-6
-returns-6 c =
+returns-6 c = rw (c .match .keys6)
+
+returns-7 : tie.Need-returns-7
+returns-7 c =
     let other = c .match .rest in
     rw (
-      ne-eqb _ 2 (other .0 .0 .0 .0 .1),
-      ne-eqb _ 3 (other .0 .0 .0 .1),
-      ne-eqb _ 4 (other .0 .0 .1),
-      ne-eqb _ 5 (other .0 .1),
-      ne-eqb _ 6 (other .1),
+      ne-eqb _ 2 (other .0 .0 .0 .0 .0 .1),
+      ne-eqb _ 3 (other .0 .0 .0 .0 .1),
+      ne-eqb _ 4 (other .0 .0 .0 .1),
+      ne-eqb _ 5 (other .0 .0 .1),
+      ne-eqb _ 6 (other .0 .1),
+      ne-eqb _ 14 (other .1),
     )
 
 pub page-kind-spec : {M : Type 1} → statement M
-page-kind-spec = tie.close (tie.spec returns returns-2 returns-3 returns-4 returns-5 returns-6)
+page-kind-spec = tie.close (tie.spec returns returns-2 returns-3 returns-4 returns-5 returns-6 returns-7)

@@ -6,7 +6,7 @@ use mathlib.Core.List.{List}
 use Prim.Native.Nat.{ℕ, zero, suc, _*_, _≤_}
 use native.Mathlib.Omega.{arith}
 use lib.ListN.{length, take-append-drop}
-use Rattle.machine.specs.declared.PageCall.the-variants.{Mark, Drop, Touch, Look, Release}
+use Rattle.machine.specs.declared.PageCall.the-variants.{Mark, Drop, Touch, Look, Release, GiveBack}
 use Rattle.machine.specs.Machine.{Sizes, State, Lent, uses, facts, sizesBy, Call, start, page, free, translate, read, write, list, writeMap, readMap, asked}
 use Rattle.machine.specs.Machine.{Answer, done, refusal, Out, withRam}
 use Rattle.machine.specs.Laws.Calls.{begins-so}
@@ -108,6 +108,7 @@ module _ (k : Memory) (n : Lent) (a : Answer) (part : Memory) where
     lent-ram (page Touch i b l) e r h = same-touch m (H .sound) (n .ram) r (omega (arith, ap length (H .ram-is))) i b l
     lent-ram (page Look i b l) e r h = absurd (false≢true e)
     lent-ram (page Release i b l) e r h = absurd (false≢true e)
+    lent-ram (page GiveBack i b l) e r h = absurd (false≢true e)
     lent-ram free e r h = absurd (false≢true e)
     lent-ram (translate i x l) e r h = absurd (false≢true e)
     lent-ram (read i x count l) e r h = same-read m (H .sound) (n .ram) r i x count l

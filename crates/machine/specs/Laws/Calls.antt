@@ -9,12 +9,12 @@ use borrow.Author.Tests.{ltb-true, leb-true}
 use lib.Dec.{eqb, ltb, leb}
 use lib.ListN.{length}
 use Rattle.machine.specs.declared.PageCall.{PageCall}
-use Rattle.machine.specs.declared.PageCall.the-variants.{Mark, Drop, Touch, Look, Release}
+use Rattle.machine.specs.declared.PageCall.the-variants.{Mark, Drop, Touch, Look, Release, GiveBack}
 use Rattle.machine.specs.Machine.{Sizes, placeOf, sizesOk, spaceBytes, spanPages, pageOfAddress, State, Lent, isStart, startOf, wordsAt, pageOf, enough}
 use Rattle.machine.specs.Machine.{Call, start, page, free, translate, read, write, list, writeMap, readMap, uses, facts, pageFacts, tablesAndRam}
 use Rattle.machine.specs.Machine.{everyBuffer, lends}
 use Rattle.machine.specs.Machine.{lentOk, refusal, sizesBy, sizesFor, sizesAfter, asked, Effect, unchanged, prepared, refilled, startPut, pageMapped}
-use Rattle.machine.specs.Machine.{regionEmptied, spanStored}
+use Rattle.machine.specs.Machine.{regionEmptied, pageGivenBack, spanStored, givenBack}
 use Rattle.machine.specs.Machine.{Kind, ended, touched, looked, released, counted, translated, copied, listed, mapWritten, refusalOf, Answer, done}
 use Rattle.machine.specs.Machine.{Out, tell}
 use Rattle.machine.specs.Machine.{withRam, markAt, dropAt, spanOutside, spanShort, restoredIf, accepted, unless, step, answer, after, afterAll}
@@ -28,11 +28,12 @@ use Rattle.machine.specs.MapTheorems.{described-sound}
 use Rattle.machine.specs.Laws.Kept.{sound-begun, sound-stored}
 use Rattle.machine.specs.Laws.Steps.{sound-marked-or-not, sound-dropped-or-not, sound-touched, sound-released-or-not, sound-written, touch-sizes}
 use Rattle.machine.specs.Laws.Steps.{write-sizes, page-place}
-use Rattle.machine.specs.Laws.Changes.{KeptIfRefused, mark-kept, drop-kept, touch-kept, release-kept, write-kept, mark-start, drop-start, touch-region}
-use Rattle.machine.specs.Laws.Changes.{release-region, write-span, may-stay}
-use Rattle.machine.specs.Laws.Shows.{shows-started, touched-shows, released-shows, written-shows}
+use Rattle.machine.specs.Laws.Handed.{sound-given}
+use Rattle.machine.specs.Laws.Changes.{KeptIfRefused, mark-kept, drop-kept, touch-kept, release-kept, give-kept, write-kept, mark-start, drop-start, touch-region}
+use Rattle.machine.specs.Laws.Changes.{release-region, give-region, write-span, may-stay}
+use Rattle.machine.specs.Laws.Shows.{shows-started, touched-shows, released-shows, given-shows, written-shows}
 use Rattle.machine.specs.Laws.Unseen.{Alike, same-answer, told-alike, mark-alike, drop-alike, touch-alike, release-alike, read-alike, write-alike}
-use Rattle.machine.specs.Laws.Unseen.{list-alike, map-alike}
+use Rattle.machine.specs.Laws.Unseen.{give-alike, list-alike, map-alike}
 
 -- the RAM is long enough for the sizes after the call
 abbrev RamRoom : State → Call → Type 0
@@ -119,6 +120,16 @@ module _ (m : State) where
         shown = λ s room j x here n. released-shows m s j x p (isStart m p) refl n;
         alike = λ ram. release-alike m ram p (isStart m p);
       }
+  page-lawful GiveBack i b l e =
+      let p = placeOf (m .sizes) i b in
+      record {
+        sound = λ s. sound-given m s p;
+        keeps = give-kept m p (pageOf m p);
+        sizes = give-region m p (pageOf m p) .0 .sizes;
+        changes = λ _. give-region m p (pageOf m p);
+        shown = λ s room j x here n. given-shows m s j x p n;
+        alike = λ ram. give-alike m ram p (pageOf m p);
+      }
 
   -- what a file describes is sound, and is begun with the RAM as it stands
   restored-lawful : (file : List ℕ) (l : Lent) (o : Option State) → described [] file ≡ o → Lawful m (readMap file l)
@@ -190,6 +201,7 @@ is-refusal translated n = refl
 is-refusal copied n = refl
 is-refusal listed n = refl
 is-refusal mapWritten n = refl
+is-refusal givenBack n = refl
 
 -- a claim about a call holds if it holds where the checks pass and where the state stays
 by-check : (P : Out → Type 0) (m : State) (c : Call) → (asked (m .sizes) c ≡ 0 → P (accepted m c)) → ((a : Answer) → P (tell m a)) → P (step m c)
@@ -242,6 +254,7 @@ spared-shows m i x v (refilled z) a h = h
 spared-shows m i x v (startPut j b) a h = h
 spared-shows m i x v (pageMapped j b) a h = zero-not (eqb (pageOfAddress (m .sizes) i x) (placeOf (m .sizes) j b)) (shows m i x) v h
 spared-shows m i x v (regionEmptied j b) a h = rw a h
+spared-shows m i x v (pageGivenBack j b) a h = rw a h
 spared-shows m i x v (spanStored j y vs) a h =
     let page = inRun (pageOfAddress (m .sizes) j y) (spanPages (m .sizes) y (length vs)) (pageOfAddress (m .sizes) i x) in
     rw a (zero-not page (shows m i x) v h)
@@ -340,6 +353,7 @@ ram-long m m′ (refilled z) c = ap length c
 ram-long m m′ (startPut i b) c = ap length (c .ram)
 ram-long m m′ (pageMapped i b) c = c .1 .ram-size
 ram-long m m′ (regionEmptied i b) c = ap length (c .1)
+ram-long m m′ (pageGivenBack i b) c = ap length (c .1)
 ram-long m m′ (spanStored i x vs) c = c .taken .ram-size
 
 pub step-fits : (m : State) (c : Call) → Sound m → after m c .sizes ≡ m .sizes → RamFits m → RamFits (after m c)

@@ -11,7 +11,7 @@ use lib.ListN.{length, getD}
 use Rattle.sequence.specs.Lists.{tabulate-same, getD-same}
 use Rattle.machine.specs.Machine.{Sizes, places, placeOf, pageOfAddress, spanPages, sizesBy, State, begun, region, startOf, ramAt}
 use Rattle.machine.specs.Machine.{Call, facts, Effect, unchanged, prepared, refilled, startPut, pageMapped}
-use Rattle.machine.specs.Machine.{regionEmptied, spanStored, Answer, bytes, byteIn, byteAt, withRam, answer, after, answers}
+use Rattle.machine.specs.Machine.{regionEmptied, pageGivenBack, spanStored, Answer, bytes, byteIn, byteAt, withRam, answer, after, answers}
 use Rattle.machine.specs.Claims.{Sound, Bare, BeginsBare, Address, isRefused, isStartAt, shownAt, shows, orZero, inRun, inSpan, showsBy, showsFrom}
 use Rattle.machine.specs.Laws.Kept.{sound-stored}
 use Rattle.machine.specs.Laws.Pairs.{shows-none}
@@ -53,6 +53,7 @@ shown-same m r i x h (refilled z) = h
 shown-same m r i x h (startPut j b) = h
 shown-same m r i x h (pageMapped j b) = ap (orZero (eqb (pageOfAddress (m .sizes) i x) (placeOf (m .sizes) j b))) h
 shown-same m r i x h (regionEmptied j b) = ap (cond (isStartAt (startOf m (pageOfAddress (m .sizes) i x)) (placeOf (m .sizes) j b)) none) h
+shown-same m r i x h (pageGivenBack j b) = ap (cond (eqb (pageOfAddress (m .sizes) i x) (placeOf (m .sizes) j b)) none) h
 shown-same m r i x h (spanStored j y vs) =
     let page = inRun (pageOfAddress (m .sizes) j y) (spanPages (m .sizes) y (length vs)) (pageOfAddress (m .sizes) i x) in
     ap (λ (o : Option ℕ). cond (inSpan i x j y (length vs)) (some (getD vs (x - y) 0)) (orZero page o)) h

@@ -13,16 +13,18 @@ use lib.ListN.{length, getD}
 use Rattle.places.specs.Laws.{div-mono}
 use Rattle.machine.specs.Machine.{Sizes, spaceBytes, pageOfAddress, spanPages, State, isStart, Page, outside, unmapped, mapped, pageOf, ramIn, ramAt}
 use Rattle.machine.specs.Machine.{startOf, wordsAt, Out, spanStored, withPair, cleared, touchNew, touchPage, touchAt, touchAll, emptied, releaseAt}
+use Rattle.machine.specs.Machine.{handedBack, giveBackPage}
 use Rattle.machine.specs.Machine.{isOutside, anyOutside, isUnmapped, countAbsent, stored, storeAll, spanTouched, spanOutside, spanShort, writeIf}
 use Rattle.machine.specs.Claims.{Sound, Address, Same, RamFits, isRefused, isStartAt, shownAt, shows, orZero, inRun, inSpan, showsBy, OneStart}
 use Rattle.machine.specs.Laws.Sizes.{both, fit, some-bytes}
-use Rattle.machine.specs.Laws.Lookup.{is-unmapped}
+use Rattle.machine.specs.Laws.Lookup.{is-mapped, is-unmapped}
 use Rattle.machine.specs.Laws.Kept.{start-held, sound-paired, sound-emptied, sound-stored}
 use Rattle.machine.specs.Laws.Steps.{sound-touched, sound-all-touched}
 use Rattle.machine.specs.Laws.Holders.{ram-mapped, ram-below, same-byte}
 use Rattle.machine.specs.Laws.Zeroed.{zeroed-in, zeroed-out}
 use Rattle.machine.specs.Laws.Pairs.{Holder, holder-mapped, not-held, shows-held, shows-none, shows-same, new-holder, old-holder}
 use Rattle.machine.specs.Laws.Pairs.{was-holder, kept-holder, left-holder}
+use Rattle.machine.specs.Laws.Handed.{sound-handed, handed-keeps, handed-held, handed-gone}
 use Rattle.machine.specs.Laws.Stays.{held-inside, Grown, grown-fits, grown-touched, grown-all-touched, IsMapped, touch-maps, any-outside-same}
 use Rattle.machine.specs.Laws.Stays.{absent-less, or-false, span-mapped}
 use Rattle.machine.specs.Laws.Storing.{stored-other, stored-at}
@@ -129,6 +131,29 @@ module _ (m : State) (s : Sound m) (i x : ℕ) where
       → ShownAfter (cond (isStartAt (startOf m (pageOfAddress (m .sizes) i x)) a) none (shows m i x)) (releaseAt m a b)
   released-shows a false e r = absurd (false≢true (sym r))
   released-shows a true e r = emptied-shows a e (isStartAt (startOf m (pageOfAddress (m .sizes) i x)) a) refl
+
+  -- ---- a page handed back
+
+  given-shows-page : (q a f : ℕ) → pageOf m q ≡ mapped a f → (t : Bool) → eqb (pageOfAddress (m .sizes) i x) q ≡ t
+      → shows (handedBack m a q f) i x ≡ cond t none (shows m i x)
+  given-shows-page q a f e true t =
+      let same = eqb-true (pageOfAddress (m .sizes) i x) q t in
+      shows-none (handedBack m a q f) i x
+      (λ g h. handed-gone m s q a f (is-mapped m q a f e) g (subst (λ (p : ℕ). Holder (handedBack m a q f) p g) same h))
+  given-shows-page q a f e false t =
+      let there = is-mapped m q a f e in
+      let other = eqb-false (pageOfAddress (m .sizes) i x) q t in
+      shows-same m (handedBack m a q f) s (sound-handed m s q a f there) i x refl
+      (λ g h. (handed-keeps m s q a f there _ g other h, refl))
+      (λ g h. handed-held m s q a f there _ g h)
+
+  pub given-shows : (q : ℕ) → ShownAfter (cond (eqb (pageOfAddress (m .sizes) i x) q) none (shows m i x)) (giveBackPage m q (pageOf m q))
+  given-shows q = go (pageOf m q) refl
+    where
+      go : (g : Page) → pageOf m q ≡ g → ShownAfter (cond (eqb (pageOfAddress (m .sizes) i x) q) none (shows m i x)) (giveBackPage m q g)
+      go outside e r = absurd (false≢true (sym r))
+      go (unmapped a) e r = absurd (false≢true (sym r))
+      go (mapped a f) e r = given-shows-page q a f e (eqb (pageOfAddress (m .sizes) i x) q) refl
 
 -- ---- touches one after another
 

@@ -14,7 +14,7 @@ use Rattle.machine.specs.Machine.{State, Pair, Page, outside, unmapped, 
 use Rattle.machine.specs.Machine.{region, Answer, bytes, Out, tell, unlessResident, markAt, dropAt, releaseAt, touchNew, touchPage, touchAt, touchAll}
 use Rattle.machine.specs.Machine.{absence, orElse, firstAbsence, spanAbsence, byteAt, readIf, isOutside, anyOutside, isUnmapped, countAbsent}
 use Rattle.machine.specs.Machine.{withRam, storeAll, spanTouched, spanOutside, spanShort, writeIf, writeAt, untilStart, records, recordsOf}
-use Rattle.machine.specs.Machine.{listIf, mapIf}
+use Rattle.machine.specs.Machine.{giveBackPage, listIf, mapIf}
 use Rattle.machine.specs.Map.{Block, Part, bodyWords, fileWords, blockOf, blocksOf, poolPart, mapOf}
 use Rattle.machine.specs.Claims.{Address, blind}
 
@@ -103,6 +103,11 @@ module _ (m : State) (ram : List ℕ) where
   pub release-alike : (a : ℕ) (v : Bool) → Alike (withRam m ram) m (releaseAt (withRam m ram) a v) (releaseAt m a v)
   release-alike a false = told-alike _
   release-alike a true = record { answers = same-answer; states = refl }
+
+  pub give-alike : (p : ℕ) (x : Page) → Alike (withRam m ram) m (giveBackPage (withRam m ram) p x) (giveBackPage m p x)
+  give-alike p outside = told-alike _
+  give-alike p (unmapped a) = told-alike _
+  give-alike p (mapped a f) = record { answers = same-answer; states = refl }
 
 -- touching changes the RAM, and the rest alike
 touched-any : (m : State) (ram : List ℕ) (p k : ℕ) → touchAll (withRam m ram) p k ≡ withRam (touchAll m p k) (touchAll (withRam m ram) p k .ram)

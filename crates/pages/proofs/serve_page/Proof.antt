@@ -1,5 +1,5 @@
 -- Each arm is its call's own promise, whatever the caller's buffers hold.
-use Rattle.pages.specs.Serving.{done-serves, touched-serves, looked-serves, released-serves}
+use Rattle.pages.specs.Serving.{done-serves, touched-serves, looked-serves, released-serves, given-serves}
 use borrow.Author.Needs.{needs}
 use Rattle.pages.proofs.serve_page.Statement.{statement}
 use Rattle.pages.proofs.serve_page.Tie as tie
@@ -39,14 +39,23 @@ returns-5 c =
     rw (t .before .before .before .before .before .before .enum-told5 .given .1)
     (released-serves _ _ _ _ _ _ (t .release .result .answer) (t .release .ensures .0 _ _ _) (c .of-released .ensures))
 
+returns-6 : tie.Need-returns-6
+returns-6 c =
+    let t = c .before .before .before .before .before .before .before .before .before .before in
+    λ buffer records.
+    rw (t .before .before .before .before .before .before .before .before .enum-told6 .given .1)
+    (given-serves _ _ _ _ _ _ (t .give-back .result .answer) (t .give-back .ensures .0 _) (c .of-given-back .ensures))
+
 pub serve-page-spec : {M : Type 1} → statement M
 serve-page-spec =
     tie.close
     (tie.spec
     (λ c. search needs) (λ c κs. search needs) (λ c κs. search needs) (λ c. search needs) (λ c κs. search needs) (λ c κs. search needs)
     (λ c. search needs) (λ c κs. search needs) (λ c κs. search needs) (λ c. search needs) (λ c κs. search needs) (λ c κs. search needs)
-    (λ c. search needs) (λ c κs. search needs) (λ c κs. search needs) (λ c. search needs) (λ c. search needs) returns (λ c. search needs)
+    (λ c. search needs) (λ c κs. search needs) (λ c κs. search needs) (λ c. search needs) (λ c κs. search needs) (λ c κs. search needs) (λ c. search needs)
+    (λ c. search needs) returns (λ c. search needs)
     (λ c. search needs) returns-2 (λ c. search needs) (λ c. search needs) (λ c. search needs) (λ c. search needs) (λ c. search needs)
     (λ c. search needs) (λ c. search needs) (λ c. search needs) returns-3 (λ c. search needs) (λ c. search needs) (λ c. search needs) (λ c. search needs)
     (λ c. search needs) (λ c. search needs) returns-4 (λ c. search needs) (λ c. search needs) (λ c. search needs) (λ c. search needs)
-    (λ c. search needs) returns-5)
+    (λ c. search needs) returns-5 (λ c. search needs) (λ c. search needs) (λ c. search needs) (λ c. search needs) (λ c. search needs) (λ c. search needs)
+    (λ c. search needs) returns-6)

@@ -118,6 +118,11 @@ returns-19 c =
     let t = c .before .before .before .before .before in
     roomed (t .before .before) _ (t .reply11 .given .1) (omega arith) (c .before .before .put-refusal .ensures)
 
+returns-20 : tie.Need-returns-20
+returns-20 c =
+    let t = c .before .before .before .before in
+    roomed (t .before .before) _ (t .enum-told3 .given .1) (omega arith) (c .before .before .put-done .ensures)
+
 pub say-spec : {M : Type 1} → statement M
 say-spec =
     tie.close
@@ -127,7 +132,7 @@ say-spec =
     (λ c. search needs) (λ c κs. search needs) (λ c. search needs) (λ c κs. search needs) (λ c. search needs) (λ c κs. search needs)
     (λ c. search needs) (λ c κs. search needs) (λ c. search needs) returns-5 (λ c. search needs) (λ c. search needs) returns-6
     slice-aggregate-put-regions put-regions-requires (λ c. search needs) (λ c κs. search needs) (λ c. search needs) (λ c κs. search needs)
-    (λ c. search needs) (λ c κs. search needs) (λ c. search needs) returns-7 (λ c. search needs) returns-8 (λ c. search needs) returns-9
+    (λ c. search needs) (λ c κs. search needs) (λ c. search needs) (λ c κs. search needs) (λ c. search needs) returns-7 (λ c. search needs) returns-8 (λ c. search needs) returns-9
     (λ c. search needs) returns-10 (λ c. search needs) returns-11 (λ c. search needs) returns-12 (λ c. search needs) returns-13 (λ c. search needs)
     returns-14 (λ c. search needs) returns-15 (λ c. search needs) returns-16 (λ c. search needs) returns-17 (λ c. search needs) returns-18
-    (λ c. search needs) returns-19)
+    (λ c. search needs) returns-19 (λ c. search needs) returns-20)

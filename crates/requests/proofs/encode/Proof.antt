@@ -43,6 +43,9 @@ returns-12 c = λ buffer records e. rw (c .before .before .reply10 .given .1) (c
 returns-13 : tie.Need-returns-13
 returns-13 c = λ buffer records e. rw (c .before .before .reply11 .given .1) (c .numbers13 .ensures)
 
+returns-14 : tie.Need-returns-14
+returns-14 c = λ buffer records e. rw (c .before .enum-told3 .given .1) (c .numbers14 .ensures)
+
 pub encode-spec : {M : Type 1} → statement M
 encode-spec =
     tie.close
@@ -52,5 +55,5 @@ encode-spec =
     (λ c. search needs) (λ c. search needs) (λ c κs. search needs) (λ c. search needs) (λ c. search needs) (λ c κs. search needs) (λ c. search needs)
     (λ c κs. search needs) (λ c. search needs) (λ c κs. search needs) (λ c. search needs) (λ c. search needs) (λ c κs. search needs)
     (λ c. search needs) (λ c κs. search needs) (λ c κs. search needs) (λ c. search needs) (λ c κs. search needs) (λ c. search needs)
-    (λ c κs. search needs) returns returns-2 returns-3 returns-4 returns-5 returns-6 returns-7 returns-8 returns-9 returns-10 returns-11 returns-12
-    returns-13)
+    (λ c κs. search needs) (λ c. search needs) (λ c κs. search needs) returns returns-2 returns-3 returns-4 returns-5 returns-6 returns-7 returns-8 returns-9 returns-10 returns-11 returns-12
+    returns-13 returns-14)

@@ -1,0 +1,3 @@
+pub mod Tests
+pub mod Leaving
+pub mod Gives

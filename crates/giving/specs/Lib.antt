@@ -1,0 +1,5 @@
+pub mod Models
+pub mod Fits
+pub mod Chain
+pub mod Holding
+pub mod Giving
