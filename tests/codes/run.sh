@@ -23,7 +23,10 @@ $1 == "no" { print $2, 0, $3 + 0, "" }
 printf '%s \n' "16 0 0" "24 6 0" "24 6 0" "25 1 0" "22 1 0" "23 255 0" "0 0 0" "0 0 0" "0 0 0" >> "$made/stdout"
 # Then the map, 72 bytes: one too few, as many; cut short, read back; the frame that is left, the same bytes read; a part beyond the buffer.
 printf '%s \n' "13 0 0" "26 72 0" "12 0 0" "16 0 0" "22 1 0" "24 6 0" "0 0 0" >> "$made/stdout"
-# Its words, as four bytes each: the sizes, a row for the space and one for the pool, the region with its two pages, the pool.
+# Then hand-backs, kind 14, where pages 1 and 2 have frames 0 and 2: page 1, again, a page beyond the space, a space of no 32 bits. The pool is
+# 0, 1: two frames are left, page 5 takes frame 0, and a release gives back two pages.
+printf '%s \n' "16 0 0" "10 0 0" "3 0 0" "0 0 0" "22 2 0" "18 0 1" "21 2 0" >> "$made/stdout"
+# The map's words, as four bytes each: the sizes, a row for the space and one for the pool, the region with its two pages, the pool.
 words=(1 8 3 256  10 7 2  17 1 1  0 8 2 1 0 2 2  1)
 map=$(for word in "${words[@]}"; do printf ' %d' $((word % 256)) $((word / 256)) 0 0; done)
 # Two numbers of the replies, the bytes around what was read and the records around the one region stay.

@@ -1,8 +1,8 @@
 // The plain machine of document 01, for the programs of tests/ that say what the pager must answer.
-// Written from the document alone, whose words stand in quotation marks, and from requests W-201 and
-// W-202 of document 02, by which a new page reads as zeros and the state goes to a map file: a set of
-// starts, for each region a list of pages and frames, the pool as a list, the RAM. No table, no index,
-// no layer.
+// Written from the document alone, whose words stand in quotation marks, and from requests W-201, W-202
+// and W-205 of document 02, by which a new page reads as zeros, the state goes to a map file, and one
+// page is handed back: a set of starts, for each region a list of pages and frames, the pool as a list,
+// the RAM. No table, no index, no layer.
 #![allow(dead_code)]
 use std::collections::{BTreeMap, BTreeSet, HashMap, VecDeque};
 use std::ops::Range;
@@ -118,6 +118,7 @@ pub enum Ask {
     List(u64, u64),
     // the bytes of the file's buffer
     WriteMap(u64),
+    GiveBack(u64, u64),
 }
 
 pub struct Call {
@@ -138,6 +139,7 @@ impl Ask {
             Ask::Touch(..) | Ask::Write(..) => [1; 8],
             Ask::List(..) => [1, 1, 0, 0, 0, 0, 0, 0],
             Ask::WriteMap(_) => [1, 1, 1, 0, 1, 0, 1, 0],
+            Ask::GiveBack(..) => [1, 1, 1, 1, 1, 1, 1, 0],
         }
     }
 
@@ -145,7 +147,7 @@ impl Ask {
         match *self {
             Ask::Start(_) | Ask::Free | Ask::WriteMap(_) => None,
             Ask::Mark(space, _) | Ask::Drop(space, _) | Ask::Touch(space, _) => Some(space),
-            Ask::Look(space, _) | Ask::Release(space, _) => Some(space),
+            Ask::Look(space, _) | Ask::Release(space, _) | Ask::GiveBack(space, _) => Some(space),
             Ask::Translate(space, _) | Ask::Read(space, _, _) => Some(space),
             Ask::Write(space, _, _) | Ask::List(space, _) => Some(space),
         }
@@ -161,6 +163,7 @@ impl Ask {
             Ask::Start(_) | Ask::Free | Ask::List(..) | Ask::WriteMap(_) => true,
             Ask::Mark(_, page) | Ask::Drop(_, page) | Ask::Touch(_, page) => *page < sizes.pages,
             Ask::Look(_, page) | Ask::Release(_, page) => *page < sizes.pages,
+            Ask::GiveBack(_, page) => *page < sizes.pages,
             Ask::Translate(_, address) => *address < sizes.space_bytes(),
             Ask::Read(_, address, count) => ends(*address, *count),
             Ask::Write(_, address, bytes) => ends(*address, bytes.len() as u64),
@@ -274,9 +277,10 @@ pub struct Machine {
     sizes: Sizes,
     // the places of all spaces' starts
     starts: BTreeSet<u64>,
-    // by its start, each region's pairs (place of the page, frame) "in order of mapping"
+    // by its start, each region's pairs (place of the page, frame) "in order of mapping"; W-205:
+    // "From now on newest means last in the list, and order of mapping means the list's order"
     lists: BTreeMap<u64, Vec<(u64, u64)>>,
-    // the frame of each place in the lists, so that no list is searched
+    // the frame of each place in the lists, so that no list is searched but for a hand-back
     held: HashMap<u64, u64>,
     pool: VecDeque<u64>,
     ram: Vec<u8>,
@@ -316,6 +320,18 @@ impl Machine {
     // For those who play it wrong on purpose.
     pub fn ram_mut(&mut self) -> &mut [u8] {
         &mut self.ram
+    }
+
+    pub fn pool_mut(&mut self) -> &mut VecDeque<u64> {
+        &mut self.pool
+    }
+
+    pub fn starts_mut(&mut self) -> &mut BTreeSet<u64> {
+        &mut self.starts
+    }
+
+    pub fn lists_mut(&mut self) -> &mut BTreeMap<u64, Vec<(u64, u64)>> {
+        &mut self.lists
     }
 
     pub fn pool(&self) -> &VecDeque<u64> {
@@ -364,6 +380,7 @@ impl Machine {
             Ask::Write(space, address, ref bytes) => self.write(space, address, bytes),
             Ask::List(space, room) => self.list(space, room),
             Ask::WriteMap(room) => self.write_map(room),
+            Ask::GiveBack(space, page) => self.give_back(sizes.place(space, page)),
         }
     }
 
@@ -473,7 +490,8 @@ impl Machine {
         }
     }
 
-    // "empties the region's list, puts its frames at the front of the pool, newest mapped first"
+    // "empties the region's list, puts its frames at the front of the pool, newest mapped first": the
+    // last of the list first
     fn release(&mut self, place: u64) -> Answer {
         if !self.starts.contains(&place) {
             return Answer::Refused(5, None);
@@ -484,6 +502,29 @@ impl Machine {
             self.held.remove(place);
         }
         Answer::Pages(list.len() as u64)
+    }
+
+    // W-205: "the page leaves its region's list, the region's newest page takes its position there, and
+    // the frame goes to the front of the pool. If it was the newest, the list just gets shorter."
+    fn give_back(&mut self, place: u64) -> Answer {
+        // "Refusals: 4 and 10, in the order of document 01."
+        let Some(start) = self.region(place) else {
+            return Answer::Refused(4, None);
+        };
+        let Some(frame) = self.held.remove(&place) else {
+            return Answer::Refused(10, None);
+        };
+        let mut list = self.lists.remove(&start).unwrap_or_default();
+        let newest = list.pop();
+        // the newest itself stands there no more
+        if let (Some(left), Some(newest)) = (list.iter_mut().find(|pair| pair.0 == place), newest) {
+            *left = newest;
+        }
+        if !list.is_empty() {
+            self.lists.insert(start, list);
+        }
+        self.pool.push_front(frame);
+        Answer::Done
     }
 
     // The frame of a resident page, or the refusal of one that isn't.

@@ -34,6 +34,9 @@ const EARLY: &[(&str, &str)] = &[
     ("list 99", "no 1"),
     ("map", "no 1"),
     ("map 0", "bad line"),
+    ("give 0 0", "no 1"),
+    ("give 999999999 999999999", "no 1"),
+    ("give 0", "bad line"),
     ("touch 999999999 999999999", "no 1 0"),
     ("start 0 8 3 256", "no 1"),
     ("start 1 8 129 256", "no 1"),
@@ -227,6 +230,39 @@ const BAD: &[&str] = &[
     "mapx",
     "Map",
     "MAP",
+    "give",
+    "give ",
+    "give 0",
+    "give 0 ",
+    "give 0 0 0",
+    "give 0 0 ",
+    "give 0 0 00",
+    "give  0 0",
+    "give 0  0",
+    " give 0 0",
+    "give 0,0",
+    "give\t0 0",
+    "give 0\t0",
+    "give 0 0\r",
+    "give 0 0\0",
+    "give 0 -1",
+    "give 0 +1",
+    "give 0 0x0",
+    "give 0 a",
+    "give 0 0000000000",
+    "give 0 4294967296",
+    "give 4294967296 0",
+    "give0 0",
+    "give0",
+    "gives 0 0",
+    "giv 0 0",
+    "giv",
+    "gi ve 0 0",
+    "Give 0 0",
+    "GIVE 0 0",
+    "give back 0 0",
+    "give_back 0 0",
+    "giveback 0 0",
     "start",
     "start 1 8 3",
     "start 1 8 3 ",
@@ -559,6 +595,186 @@ fn maps() -> Vec<Said> {
     lines
 }
 
+// W-205: "the page leaves its region's list, the region's newest page takes its position there, and the frame goes to the front of the
+// pool". One space of eight pages, five frames; a region from page 1 on and one from page 5 on. Beside a line the lists and the pool
+// that it leaves, as page:frame.
+fn hand_backs() -> Vec<Said> {
+    let mut lines = said(&[
+        ("start 1 8 5 256", "ok"),
+        ("give 0 0", "no 4"),
+        ("give 0 7", "no 4"),
+        ("give 1 0", "no 2"),
+        ("give 0 8", "no 3"),
+        ("give 1 8", "no 2"),
+        ("give 0 999999999", "no 3"),
+        ("give 999999999 999999999", "no 2"),
+        ("mark 0 1", "ok"),
+        ("mark 0 5", "ok"),
+        ("give 0 0", "no 4"),
+        ("give 0 1", "no 10"),
+        ("give 0 7", "no 10"),
+        ("touch 0 3", "frame 0 new 1"),
+        ("touch 0 1", "frame 1 new 1"),
+        ("touch 0 4", "frame 2 new 1"),
+        ("touch 0 6", "frame 3 new 1"),
+        // refused: no region, a start that is absent, absent beside resident ones
+        ("give 0 0", "no 4"),
+        ("give 0 5", "no 10"),
+        ("give 0 2", "no 10"),
+        ("free", "free 1"),
+    ]);
+    let mut say = |line: &str, answer: &str| lines.push((line.into(), answer.to_string()));
+    // 3:0 1:1 4:2, 6:3, pool 4
+    let mapped = [
+        1, 8, 5, 256, 10, 14, 4, 24, 1, 1, 1, 4, 3, 3, 0, 1, 1, 4, 2, 5, 3, 1, 6, 3, 4,
+    ];
+    say("map", &map_line(&mapped));
+    // the oldest of three: 4:2 1:1, 6:3, pool 0 4
+    say("give 0 003", "done");
+    say("give 0 3", "no 10");
+    say("free", "free 2");
+    say("look 0 3", "absent 1");
+    say("translate 0 768", "no 10");
+    let oldest = [
+        1, 8, 5, 256, 10, 12, 3, 22, 2, 2, 1, 4, 2, 4, 2, 1, 1, 5, 3, 1, 6, 3, 0, 4,
+    ];
+    say("map", &map_line(&oldest));
+    say("list 0", "regions 2 1 4 2 5 3 1");
+    // the page that was moved keeps its frame, and the frame handed back is the next to go
+    say("touch 0 4", "frame 2 old 0");
+    say("touch 0 1", "frame 1 old 0");
+    say("touch 0 2", "frame 0 new 1");
+    // the one before the newest of three, 4:2 1:1 2:0, which is a start: 4:2 2:0, 6:3, pool 1 4
+    say("give 0 1", "done");
+    let before = [
+        1, 8, 5, 256, 10, 12, 3, 22, 2, 2, 1, 4, 2, 4, 2, 2, 0, 5, 3, 1, 6, 3, 1, 4,
+    ];
+    say("map", &map_line(&before));
+    // "newest means last in the list": pool 0 2 1 4
+    say("release 0 1", "pages 2");
+    say("touch 0 1", "frame 0 new 1");
+    say("touch 0 2", "frame 2 new 1");
+    say("touch 0 3", "frame 1 new 1");
+    say("touch 0 4", "frame 4 new 1");
+    // an empty pool is no reason
+    say("touch 0 7", "no 8 1");
+    say("give 0 7", "no 10");
+    say("give 0 0", "no 4");
+    // one in the middle of 1:0 2:2 3:1 4:4, then the newest of 1:0 4:4 3:1: 1:0 4:4, 6:3, pool 1 2
+    say("give 0 2", "done");
+    say("give 0 3", "done");
+    let newest = [
+        1, 8, 5, 256, 10, 12, 3, 22, 2, 2, 1, 4, 2, 1, 0, 4, 4, 5, 3, 1, 6, 3, 1, 2,
+    ];
+    say("map", &map_line(&newest));
+    // mapped again it is the newest again, and takes the frame that it had: 1:0 4:4 3:1, pool 2
+    say("touch 0 3", "frame 1 new 1");
+    say("give 0 3", "done");
+    say("map", &map_line(&newest));
+    say("release 0 1", "pages 2");
+    // 6:3, pool 4 0 1 2
+    let released = [
+        1, 8, 5, 256, 10, 8, 1, 18, 4, 4, 1, 4, 0, 5, 3, 1, 6, 3, 4, 0, 1, 2,
+    ];
+    say("map", &map_line(&released));
+    // the only one: the region is empty and its start stays; pool 3 4 0 1 2
+    say("mark 0 6", "no 7");
+    say("drop 0 5", "no 7");
+    say("give 0 6", "done");
+    say("give 0 6", "no 10");
+    say("list 0", "regions 2 1 4 0 5 3 0");
+    say("mark 0 5", "no 6");
+    say("release 0 5", "pages 0");
+    say("mark 0 6", "ok");
+    say("drop 0 6", "ok");
+    let emptied = [
+        1, 8, 5, 256, 10, 6, 0, 16, 5, 5, 1, 4, 0, 5, 3, 0, 3, 4, 0, 1, 2,
+    ];
+    say("map", &map_line(&emptied));
+    say("drop 0 5", "ok");
+    say("give 0 6", "no 10");
+    say("touch 0 6", "frame 3 new 1");
+    say("mark 0 5", "no 7");
+    say("give 0 6", "done");
+    say("drop 0 1", "ok");
+    say("give 0 6", "no 4");
+    say("free", "free 5");
+    lines
+}
+
+// W-205: "a byte now also ends with an accepted hand-back of its page", and with no other page's. Two spaces of four pages, three
+// frames.
+const HANDED_BYTES: &[(&str, &str)] = &[
+    ("start 2 4 3 256", "ok"),
+    ("mark 0 0", "ok"),
+    ("mark 1 0", "ok"),
+    ("write 0 0 a1", "ok"),
+    ("write 0 256 a2", "ok"),
+    ("write 0 512 a3", "ok"),
+    ("give 1 0", "no 10"),
+    ("give 0 3", "no 10"),
+    ("read 0 0 1", "bytes a1"),
+    // frames 2 and 1 are left, of pages 2 and 1
+    ("give 0 0", "done"),
+    ("read 0 0 1", "no 10"),
+    ("read 0 256 1", "bytes a2"),
+    ("read 0 512 1", "bytes a3"),
+    ("translate 0 512", "at 512"),
+    ("read 0 255 2", "no 10"),
+    // over a border, into the frame that came back
+    ("write 0 767 b3b4", "ok"),
+    ("translate 0 768", "at 0"),
+    ("read 0 767 3", "bytes b3b400"),
+    ("read 0 512 1", "bytes a3"),
+    ("write 1 256 c1", "no 8"),
+    ("give 0 1", "done"),
+    ("write 1 256 c1", "ok"),
+    ("translate 1 256", "at 256"),
+    ("read 0 256 1", "no 10"),
+    ("give 1 1", "done"),
+    ("read 0 512 1", "bytes a3"),
+    ("read 0 768 1", "bytes b4"),
+    // a page that comes back shows zeros
+    ("touch 0 1", "frame 1 new 1"),
+    ("read 0 256 1", "bytes 00"),
+    ("read 0 511 2", "bytes 00a3"),
+];
+
+// All frames in one region; the oldest page is handed back, the newest is then the oldest, and its frame the last of those released.
+fn whole_region() -> Vec<Said> {
+    let mut lines = said(&[("start 1 1024 128 256", "ok"), ("mark 0 0", "ok")]);
+    let words = |page: u64| if page < 64 { 1 } else { 3 };
+    for k in 0..128 {
+        let answer = format!("frame {k} new {}", words(k));
+        lines.push((format!("touch 0 {k}").into(), answer));
+    }
+    lines.extend(said(&[
+        ("give 0 0", "done"),
+        ("give 0 128", "no 10"),
+        ("list 0", "regions 1 0 1024 127"),
+        ("release 0 0", "pages 127"),
+        ("free", "free 128"),
+    ]));
+    let frames = (1..127).rev().chain([127, 0]);
+    for (k, frame) in frames.enumerate() {
+        let answer = format!("frame {frame} new {}", words(k as u64));
+        lines.push((format!("touch 0 {k}").into(), answer));
+    }
+    // every page on its own, from the first on: the last frame handed back is the first to go
+    for k in 0..128 {
+        lines.push((format!("give 0 {k}").into(), "done".to_string()));
+    }
+    lines.extend(said(&[
+        ("free", "free 128"),
+        ("release 0 0", "pages 0"),
+        ("touch 0 5", "frame 0 new 1"),
+        ("touch 0 6", "frame 127 new 1"),
+        ("touch 0 7", "frame 1 new 1"),
+        ("touch 0 8", "frame 2 new 1"),
+    ]));
+    lines
+}
+
 pub fn corners() -> Vec<Said> {
     let bad = all_bad(&bad_lines());
     let mut lines = said(EARLY);
@@ -574,6 +790,9 @@ pub fn corners() -> Vec<Said> {
     lines.extend(whole_pool());
     lines.extend(new_pages());
     lines.extend(maps());
+    lines.extend(hand_backs());
+    lines.extend(said(HANDED_BYTES));
+    lines.extend(whole_region());
     lines.extend(limits());
     lines
 }
@@ -702,6 +921,8 @@ const ENDS: &[(&str, &str)] = &[
     ("start 1 8 3 256\nwrite 0 0 ", "ok\nbad line\n"),
     ("start 1 8 3 256\nread 0 0 0", "ok\nbytes\n"),
     ("start 1 8 3 256\nread 0 0 0\n", "ok\nbytes\n"),
+    ("start 1 8 3 256\ngive 0 0", "ok\nno 4\n"),
+    ("start 1 8 3 256\ngive 0 0 ", "ok\nbad line\n"),
     ("start 1 8 3 256", "ok\n"),
     ("start 1 8 3 25", "no 1\n"),
     ("\u{1a}", "bad line\n"),

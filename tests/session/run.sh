@@ -67,7 +67,7 @@ broken() {
         answers corners-1 player "$made/wrong"
         cmp -s "$made/player/corners-1.txt" "$made/scripts/corners-1.out" && fail "not found by hand: $name"
         found=
-        for script in "$made"/scripts/{zeros,starts,bytes,maps}-*.txt; do
+        for script in "$made"/scripts/{zeros,starts,bytes,maps,handed}-*.txt; do
             script=${script##*/}
             answers "${script%.txt}" player "$made/wrong"
             cmp -s "$made/player/$script" "$made/independent/$script" || { found=${script%.txt} && break; }
@@ -127,14 +127,16 @@ lines=$(wc -l < "$made/answers")
 [ "$scripts" -ge 300 ] || fail "only $scripts scripts"
 [ "$lines" -ge 100000 ] || fail "only $lines lines"
 known=0
-for form in 'no '{1,2,3,4,5,6,7,8,10}'( [0-3])?' ok 'bad line' 'frame [0-9]+ new [13]' 'frame [0-9]+ old 0' \
+for form in 'no '{1,2,3,4,5,6,7,8,10}'( [0-3])?' ok done 'bad line' 'frame [0-9]+ new [13]' 'frame [0-9]+ old 0' \
     'resident [0-9]+ 0' 'absent [13]' 'pages [0-9]+' 'free [0-9]+' 'at [0-9]+' bytes 'bytes ([0-9a-f]{2}){1,256}' \
     'regions [0-9]+( [0-9]+ [0-9]+ [0-9]+)*' 'map ([0-9a-f]{8}){11,}'; do
     many=$(count "$form")
     [ "$many" -gt 0 ] || fail "no line is answered: $form"
     known=$((known + many))
 done
-[ "$known" = "$lines" ] || fail "$((lines - known)) answers have no form that document 01 gives"
+[ "$known" = "$lines" ] || fail "$((lines - known)) answers have no form that document 01 or 02 gives"
 # and new pages, read whole
 [ "$(count 'bytes (00){256}')" -gt 100 ] || fail "hardly any page is read that has zeros only"
+# and pages handed back
+[ "$(count done)" -gt 5000 ] || fail "hardly any page is handed back"
 echo "session: $scripts scripts, $lines lines agree"

@@ -27,6 +27,7 @@ const KINDS: &[(&str, u64, fn(&mut Script, u64))] = &[
     ("zeros", 40, zeros),
     ("maps", 60, maps),
     ("widest", 3, widest),
+    ("handed", 40, handed),
 ];
 
 // T at most 16, F at most 4: every refusal soon.
@@ -240,6 +241,42 @@ fn widest(s: &mut Script, seed: u64) {
         s.line("map", &[]);
         s.calls(20, &MAPPED);
     }
+}
+
+// The regions of handed: each one's start, and the first page behind it.
+const REGIONS: [((u64, u64), u64); 3] = [((0, 0), 6), ((0, 6), 12), ((1, 2), 12)];
+
+// A page is handed back at every position of lists of one to five pages; what comes next shows the order of list and pool. In the
+// end each region is emptied page by page, so that its start can be dropped, and a page of no region is handed back.
+fn handed(s: &mut Script, seed: u64) {
+    s.stray = 60;
+    s.start(Sizes(2, 12, 6 + seed % 5, 256));
+    for (start, _) in REGIONS {
+        s.line("mark", &[start.0, start.1]);
+        s.left.mark(start);
+    }
+    for long in 1..=5 {
+        for position in 0..long {
+            let (start, end) = s.draw.among(&REGIONS);
+            s.make_room(long);
+            s.fill_region(start, end, long);
+            let page = s.left.list_of(start)[position as usize];
+            s.give_page(page);
+            s.show(start);
+            s.give_page(page);
+        }
+    }
+    for (start, _) in REGIONS {
+        while let Some(page) = s.left.list_of(start).first().copied() {
+            s.give_page(page);
+            s.line("map", &[]);
+        }
+        s.line("drop", &[start.0, start.1]);
+        s.left.drop(start);
+        s.give_page(start);
+    }
+    s.marks(2);
+    s.calls(20, &MAPPED);
 }
 
 // Lines that can't be read among others that can.

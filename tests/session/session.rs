@@ -1,6 +1,6 @@
 // The session program of document 01, which says what the program `session_program` must answer: one line for
-// each line of a script. Written from document 01 and requests W-201 and W-202, whose words stand in quotation
-// marks; it plays the calls on the plain machine, ../plain/plain.rs, and knows no table and no layer.
+// each line of a script. Written from document 01 and requests W-201, W-202 and W-205, whose words stand in
+// quotation marks; it plays the calls on the plain machine, ../plain/plain.rs, and knows no table and no layer.
 // Built for `run.sh broken` it is wrong in one way, wrong.rs.
 use std::io::{BufRead, BufReader, BufWriter, Result, Write};
 
@@ -87,6 +87,7 @@ fn ask(line: &[u8]) -> Option<Ask> {
         [b"list", space] => Ask::List(number(space)?, PLACES),
         // with room for every file
         [b"map"] => Ask::WriteMap(u64::MAX),
+        [b"give", space, page] => Ask::GiveBack(number(space)?, number(page)?),
         _ => return None,
     })
 }
@@ -103,7 +104,19 @@ fn answer(machine: &mut Machine, line: &[u8]) -> String {
         None => "bad line".to_string(),
         // "A start beyond the limits gives `no 1`"
         Some(Ask::Start(sizes)) if is_beyond(&sizes) => Answer::Refused(1, None).line(),
-        Some(ask) => play(machine, &Call { ask, lent: ALL }).line(),
+        Some(ask) => {
+            let call = Call { ask, lent: ALL };
+            let answer = play(machine, &call);
+            said(&call.ask, &answer)
+        }
+    }
+}
+
+// W-205: the answer of a hand-back is "done", where document 01's calls say `ok`.
+fn said(ask: &Ask, answer: &Answer) -> String {
+    match (ask, answer) {
+        (Ask::GiveBack(..), Answer::Done) => "done".to_string(),
+        _ => answer.line(),
     }
 }
 

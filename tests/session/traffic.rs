@@ -59,12 +59,14 @@ impl Sizes {
 // A space and a page of it, in the order of their places.
 pub type Page = (u64, u64);
 
-// Which pages are starts and which are resident; no frames, no order of mapping.
+// Which pages are starts, which are resident, and in which order their regions have them; no frames.
 #[derive(Clone)]
 pub struct Left {
     pub sizes: Sizes,
     starts: BTreeSet<Page>,
     resident: BTreeSet<Page>,
+    // the resident pages of all regions, each region's in the order of its list
+    order: Vec<Page>,
 }
 
 impl Left {
@@ -73,6 +75,7 @@ impl Left {
             sizes,
             starts: BTreeSet::new(),
             resident: BTreeSet::new(),
+            order: Vec::new(),
         }
     }
 
@@ -90,6 +93,12 @@ impl Left {
 
     fn is_empty(&self, start: Page) -> bool {
         self.resident_of(start).is_empty()
+    }
+
+    // The resident pages of a region, the newest last.
+    pub fn list_of(&self, start: Page) -> Vec<Page> {
+        let is_inside = |at: &&Page| self.region(**at) == Some(start);
+        self.order.iter().filter(is_inside).copied().collect()
     }
 
     fn is_inside(&self, at: Page) -> bool {
@@ -114,6 +123,19 @@ impl Left {
             for page in self.resident_of(at) {
                 self.resident.remove(&page);
             }
+            self.order.retain(|page| self.resident.contains(page));
+        }
+    }
+
+    // "the region's newest page takes its position there"
+    pub fn give(&mut self, at: Page) {
+        let Some(start) = self.region(at) else {
+            return;
+        };
+        if let (true, Some(newest)) = (self.resident.remove(&at), self.list_of(start).pop()) {
+            self.order.retain(|page| *page != newest);
+            let left = self.order.iter_mut().find(|page| **page == at);
+            left.into_iter().for_each(|left| *left = newest);
         }
     }
 
@@ -121,9 +143,11 @@ impl Left {
     pub fn touch(&mut self, pages: &[Page]) {
         let known = |at: &Page| self.is_inside(*at) && self.region(*at).is_some();
         let absent = pages.iter().filter(|at| !self.resident.contains(at));
-        let many = absent.count() + self.resident.len();
+        let absent: Vec<Page> = absent.copied().collect();
+        let many = absent.len() + self.resident.len();
         if pages.iter().all(known) && many as u64 <= self.sizes.2 {
-            self.resident.extend(pages);
+            self.resident.extend(&absent);
+            self.order.extend(absent);
         }
     }
 }
@@ -131,15 +155,16 @@ impl Left {
 // ---- a script
 
 // How often each call is drawn: mark, drop, touch, look, release, free, translate, read, write,
-// list, map.
-pub type Mix = [u64; 11];
+// list, map, give.
+pub type Mix = [u64; 12];
 
-pub const MIXED: Mix = [4, 2, 8, 5, 4, 1, 3, 5, 5, 1, 0];
-pub const PAGES: Mix = [5, 3, 12, 9, 5, 1, 1, 1, 1, 1, 0];
-pub const SPANS: Mix = [1, 1, 3, 1, 2, 1, 5, 12, 12, 1, 0];
-pub const HUNGRY: Mix = [2, 1, 12, 4, 1, 2, 1, 2, 6, 1, 0];
-pub const MAPPED: Mix = [5, 3, 9, 1, 4, 1, 1, 1, 4, 1, 6];
-pub const ORDINARY: Mix = [30, 20, 350, 200, 60, 20, 70, 120, 120, 1, 0];
+pub const MIXED: Mix = [4, 2, 8, 5, 4, 1, 3, 5, 5, 1, 0, 4];
+pub const PAGES: Mix = [5, 3, 12, 9, 5, 1, 1, 1, 1, 1, 0, 5];
+pub const SPANS: Mix = [1, 1, 3, 1, 2, 1, 5, 12, 12, 1, 0, 3];
+pub const HUNGRY: Mix = [2, 1, 12, 4, 1, 2, 1, 2, 6, 1, 0, 3];
+pub const MAPPED: Mix = [5, 3, 9, 1, 4, 1, 1, 1, 4, 1, 6, 5];
+// no hand-back: speed.sh and bench/lines.sh time the same lines as ever
+pub const ORDINARY: Mix = [30, 20, 350, 200, 60, 20, 70, 120, 120, 1, 0, 0];
 
 pub struct Script {
     pub draw: Draw,
@@ -323,6 +348,35 @@ impl Script {
         self.left.release((space, page));
     }
 
+    // A resident page by its position in its region's list: the oldest, the newest, the one before it, or any.
+    fn some_listed(&mut self) -> Page {
+        let at = self.some_resident();
+        let list = match self.left.region(at) {
+            Some(start) => self.left.list_of(start),
+            None => Vec::new(),
+        };
+        let Some(newest) = list.len().checked_sub(1) else {
+            return at;
+        };
+        let any = self.draw.below(list.len() as u64) as usize;
+        let positions = [0, newest, newest.saturating_sub(1), any];
+        list[self.draw.among(&positions)]
+    }
+
+    pub fn give(&mut self) {
+        let at = match self.draw.below(6) {
+            0 => self.near(),
+            _ => self.some_listed(),
+        };
+        let (space, page) = self.astray(at);
+        self.give_page((space, page));
+    }
+
+    pub fn give_page(&mut self, at: Page) {
+        self.line("give", &[at.0, at.1]);
+        self.left.give(at);
+    }
+
     fn translate(&mut self) {
         let at = match self.draw.below(3) {
             0 => self.near(),
@@ -430,7 +484,8 @@ impl Script {
             7 => self.read(),
             8 => self.write(),
             9 => self.list(),
-            _ => self.line("map", &[]),
+            10 => self.line("map", &[]),
+            _ => self.give(),
         }
     }
 
@@ -463,6 +518,46 @@ impl Script {
             self.touch();
         }
         self.touch();
+    }
+
+    // Regions are released until the pool has so many frames.
+    pub fn make_room(&mut self, many: u64) {
+        for start in self.left.starts.clone() {
+            if self.left.resident.len() as u64 + many > self.left.sizes.2 {
+                self.line("release", &[start.0, start.1]);
+                self.left.release(start);
+            }
+        }
+    }
+
+    // The order of a region's list and of the pool, by a map, a release, touches, or hand-backs and touches.
+    pub fn show(&mut self, start: Page) {
+        match self.draw.below(4) {
+            0 => self.line("map", &[]),
+            1 => {
+                self.line("release", &[start.0, start.1]);
+                self.left.release(start);
+                self.empty_pool();
+            }
+            2 => self.map_some(3),
+            _ => {
+                self.give();
+                self.touch();
+                self.give();
+                self.line("map", &[]);
+            }
+        }
+    }
+
+    // A region gets so many resident pages of those below an end, in any order.
+    pub fn fill_region(&mut self, start: Page, end: u64, many: u64) {
+        self.line("release", &[start.0, start.1]);
+        self.left.release(start);
+        while (self.left.list_of(start).len() as u64) < many {
+            let page = start.1 + self.draw.below(end - start.1);
+            self.line("touch", &[start.0, page]);
+            self.left.touch(&[(start.0, page)]);
+        }
     }
 
     // The regions of every space, as one line each.

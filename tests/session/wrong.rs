@@ -1,8 +1,10 @@
-// Players that are wrong in one way each about new pages (W-201) or about maps (W-202), to try the scripts on: `run.sh broken` plays them
-// and demands that each is found. Each is the plain machine's play, and then some bytes of the RAM as they should not be, or words of a map.
+// Players that are wrong in one way each about new pages (W-201), maps (W-202) or hand-backs (W-205), to try the scripts on: `run.sh
+// broken` plays them and demands that each is found. Each is the plain machine's play, and then some bytes of the RAM as they should not
+// be, words of a map, or a list or the pool in another order.
 use crate::plain::{Answer, Ask, Call, Machine};
+use std::collections::VecDeque;
 use std::ops::Range;
-use std::sync::OnceLock;
+use std::sync::{Mutex, OnceLock};
 
 type Bytes = Range<usize>;
 
@@ -253,12 +255,230 @@ fn wrong_map(fault: MapFault, file: &[u8]) -> Vec<u8> {
     words.into_iter().flat_map(u32::to_le_bytes).collect()
 }
 
+type HandFault = fn(&mut Machine, &Call) -> Answer;
+
+const HAND_FAULTS: &[(&str, HandFault)] = &[
+    ("the list closes up behind a page handed back", |m, call| {
+        relist(m, call, |list, at| {
+            list.remove(at);
+        })
+    }),
+    ("the oldest page takes the position", |m, call| {
+        relist(m, call, |list, at| {
+            list.swap(0, at);
+            list.remove(0);
+        })
+    }),
+    ("the newest page takes the first position", |m, call| {
+        relist(m, call, |list, at| {
+            list.remove(at);
+            let newest = list.pop();
+            list.splice(0..0, newest);
+        })
+    }),
+    (
+        "the newest handed back moves the one before it",
+        |m, call| {
+            relist(m, call, |list, at| {
+                let is_newest = at + 1 == list.len();
+                list.swap_remove(at);
+                if is_newest {
+                    let before = list.pop();
+                    list.splice(0..0, before);
+                }
+            })
+        },
+    ),
+    (
+        "the newest goes too far when its neighbour leaves",
+        |m, call| {
+            relist(m, call, |list, at| {
+                let is_neighbour = at + 2 == list.len();
+                list.swap_remove(at);
+                if is_neighbour && at > 0 {
+                    list.swap(at - 1, at);
+                }
+            })
+        },
+    ),
+    ("the frame goes behind the pool's first", |m, call| {
+        repool(m, call, |pool| {
+            let behind = 1.min(pool.len() - 1);
+            pool.swap(0, behind);
+        })
+    }),
+    ("the frame goes to the pool's end", |m, call| {
+        repool(m, call, |pool| pool.rotate_left(1))
+    }),
+    ("the frame is lost", |m, call| {
+        repool(m, call, |pool| {
+            pool.pop_front();
+        })
+    }),
+    (
+        "a region emptied by a hand-back loses its start",
+        |m, call| {
+            let start = handed(m, call).map(|(start, _)| start);
+            let answer = m.play(call);
+            if let Some(start) = start.filter(|start| m.list_of(*start).is_empty()) {
+                m.starts_mut().remove(&start);
+            }
+            answer
+        },
+    ),
+    ("a hand-back releases its region", |m, call| {
+        let start = handed(m, call).map(|(start, _)| start);
+        let answer = m.play(call);
+        if let Some(start) = start {
+            let pages = m.sizes().pages;
+            let ask = Ask::Release(start / pages, start % pages);
+            let lent = call.lent;
+            m.play(&Call { ask, lent });
+        }
+        answer
+    }),
+    ("a release has the order of mapping", |m, call| {
+        let (sizes, order) = (m.sizes(), mapped_order(m));
+        if let (Ask::Release(space, page), Ok(())) = (&call.ask, call.check(&sizes)) {
+            let list = m.lists_mut().get_mut(&sizes.place(*space, *page));
+            list.into_iter().for_each(|list| put(list, &order));
+        }
+        let answer = m.play(call);
+        mapped_order(m);
+        answer
+    }),
+    ("a map has the order of mapping", |m, call| {
+        let (lists, order) = (m.lists().clone(), mapped_order(m));
+        if let Ask::WriteMap(_) = call.ask {
+            m.lists_mut()
+                .values_mut()
+                .for_each(|list| put(list, &order));
+            let answer = m.play(call);
+            *m.lists_mut() = lists;
+            return answer;
+        }
+        let answer = m.play(call);
+        mapped_order(m);
+        answer
+    }),
+    ("4 and 10 are the other way round", |m, call| {
+        answered(m, call, |answer| match answer {
+            Answer::Refused(4, None) => Answer::Refused(10, None),
+            Answer::Refused(10, None) => Answer::Refused(4, None),
+            _ => answer,
+        })
+    }),
+    ("a page handed back twice is done", |m, call| {
+        answered(m, call, |answer| match answer {
+            Answer::Refused(10, None) => Answer::Done,
+            _ => answer,
+        })
+    }),
+    ("an empty pool is refused with 8", |m, call| {
+        let is_empty = m.pool().is_empty();
+        match (m.play(call), &call.ask) {
+            (Answer::Refused(10, None), Ask::GiveBack(..)) if is_empty => Answer::Refused(8, None),
+            (answer, _) => answer,
+        }
+    }),
+    (
+        "a hand-back of no start is refused with 5",
+        |m, call| match (m.play(call), &call.ask) {
+            (Answer::Refused(10, None), Ask::GiveBack(space, page))
+                if !m.starts().contains(&m.sizes().place(*space, *page)) =>
+            {
+                Answer::Refused(5, None)
+            }
+            (answer, _) => answer,
+        },
+    ),
+    ("a refused hand-back has index words", |m, call| {
+        answered(m, call, |answer| match answer {
+            Answer::Refused(number, None) => Answer::Refused(number, Some(1)),
+            _ => answer,
+        })
+    }),
+    ("a hand-back answers how many pages", |m, call| {
+        answered(m, call, |answer| match answer {
+            Answer::Done => Answer::Pages(1),
+            _ => answer,
+        })
+    }),
+];
+
+type Pairs = Vec<(u64, u64)>;
+
+// The region of a page that a call hands back, by its start, and the page's position in its list.
+fn handed(machine: &Machine, call: &Call) -> Option<(u64, usize)> {
+    let sizes = machine.sizes();
+    let (Ask::GiveBack(space, page), Ok(())) = (&call.ask, call.check(&sizes)) else {
+        return None;
+    };
+    let place = sizes.place(*space, *page);
+    let start = machine.region(place)?;
+    let mut list = machine.list_of(start).iter();
+    let position = list.position(|pair| pair.0 == place)?;
+    Some((start, position))
+}
+
+// A hand-back that leaves another list: what becomes of the one before it, by the page's position.
+fn relist(machine: &mut Machine, call: &Call, change: fn(&mut Pairs, usize)) -> Answer {
+    let hand = handed(machine, call);
+    let mut list = hand.map_or(Vec::new(), |(start, _)| machine.list_of(start).to_vec());
+    let answer = machine.play(call);
+    if let Some((start, position)) = hand {
+        change(&mut list, position);
+        machine.lists_mut().retain(|other, _| *other != start);
+        if !list.is_empty() {
+            machine.lists_mut().insert(start, list);
+        }
+    }
+    answer
+}
+
+// A hand-back that leaves another pool.
+fn repool(machine: &mut Machine, call: &Call, change: fn(&mut VecDeque<u64>)) -> Answer {
+    let hand = handed(machine, call);
+    let answer = machine.play(call);
+    if hand.is_some() {
+        change(machine.pool_mut());
+    }
+    answer
+}
+
+// A hand-back that answers otherwise.
+fn answered(machine: &mut Machine, call: &Call, change: fn(Answer) -> Answer) -> Answer {
+    let answer = machine.play(call);
+    match call.ask {
+        Ask::GiveBack(..) => change(answer),
+        _ => answer,
+    }
+}
+
+// The resident pages in the order in which they were mapped, whatever was handed back. To be asked for before and after every call.
+fn mapped_order(machine: &Machine) -> Vec<u64> {
+    static ORDER: Mutex<Vec<u64>> = Mutex::new(Vec::new());
+    let mut order = ORDER.lock().unwrap();
+    let pairs = machine.lists().values().flatten();
+    let resident: Vec<u64> = pairs.map(|pair| pair.0).collect();
+    order.retain(|place| resident.contains(place));
+    let is_new = |place: &u64| !order.contains(place);
+    let new: Vec<u64> = resident.into_iter().filter(is_new).collect();
+    order.extend(new);
+    order.clone()
+}
+
+fn put(list: &mut Pairs, order: &[u64]) {
+    list.sort_by_key(|pair| order.iter().position(|place| *place == pair.0));
+}
+
 // Whether the names were asked for, a line each; then they are told.
 pub fn is_asked_for_names() -> bool {
     let is_asked = std::env::args().nth(1).is_some_and(|word| word == "faults");
     if is_asked {
         FAULTS.iter().for_each(|(name, _)| println!("{name}"));
         MAP_FAULTS.iter().for_each(|(name, _)| println!("{name}"));
+        HAND_FAULTS.iter().for_each(|(name, _)| println!("{name}"));
     }
     is_asked
 }
@@ -290,12 +510,15 @@ fn resident(machine: &Machine, call: &Call) -> Vec<Bytes> {
 }
 
 pub fn play(machine: &mut Machine, call: &Call) -> Answer {
-    match tried().checked_sub(FAULTS.len()) {
-        None => play_with_ram(machine, call),
-        Some(number) => match machine.play(call) {
-            Answer::Map(file) => Answer::Map(wrong_map(MAP_FAULTS[number].1, &file)),
-            answer => answer,
-        },
+    let Some(number) = tried().checked_sub(FAULTS.len()) else {
+        return play_with_ram(machine, call);
+    };
+    if let Some(number) = number.checked_sub(MAP_FAULTS.len()) {
+        return HAND_FAULTS[number].1(machine, call);
+    }
+    match machine.play(call) {
+        Answer::Map(file) => Answer::Map(wrong_map(MAP_FAULTS[number].1, &file)),
+        answer => answer,
     }
 }
 

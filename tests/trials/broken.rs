@@ -20,7 +20,7 @@ struct Made<'a> {
     loan: &'a Loan,
     head: Head,
     sizes: Sizes,
-    // the place that touch, look and release ask for
+    // the place that touch, look, release and give back ask for
     place: usize,
     // the first index word above the lowest layer, the last byte of a read's buffer, the frame links
     above: u64,
@@ -29,6 +29,35 @@ struct Made<'a> {
     // the frames that a touch or write takes next, with what they held, and those of resident pages that it asks for
     next: Vec<(usize, Vec<u8>)>,
     resident: Vec<usize>,
+    hand: Option<Hand>,
+}
+
+// A page that is handed back, by the words of the tables: its region's start, its position and that of the newest, the newest's place,
+// and the frames of the page, of the one after it and of the newest.
+#[derive(Clone, Copy)]
+struct Hand {
+    start: usize,
+    position: usize,
+    last: usize,
+    newest: usize,
+    frame: usize,
+    after: usize,
+    newest_frame: usize,
+}
+
+impl Hand {
+    fn is_newest(&self) -> bool {
+        self.position == self.last
+    }
+
+    fn is_neighbour(&self) -> bool {
+        self.position + 1 == self.last
+    }
+
+    // others stand between it and the newest
+    fn is_farther(&self) -> bool {
+        self.position + 1 < self.last
+    }
 }
 
 // What is answered instead, and done on the way.
@@ -42,10 +71,11 @@ impl Made<'_> {
             Ask::Touch(space, page) | Ask::Look(space, page) | Ask::Release(space, page) => {
                 space * sizes.pages + page
             }
+            Ask::GiveBack(space, page) => space * sizes.pages + page,
             _ => 0,
         };
         let (place, above, last, links) = (place as usize, 0, 0, Vec::new());
-        let (next, resident) = (Vec::new(), Vec::new());
+        let (next, resident, hand) = (Vec::new(), Vec::new(), None);
         let mut made = Made {
             ask,
             loan,
@@ -57,6 +87,7 @@ impl Made<'_> {
             links,
             next,
             resident,
+            hand,
         };
         if let (Some(above), true) = (made.above(), made.is_lent(0)) {
             made.above = unsafe { *above };
@@ -64,10 +95,14 @@ impl Made<'_> {
         if let Some(last) = made.last() {
             made.last = unsafe { *last };
         }
-        if matches!(ask, Ask::Release(..)) && sizes.within_limits() && made.is_lent(LINK) {
+        let has_links = matches!(ask, Ask::Release(..) | Ask::GiveBack(..));
+        if has_links && sizes.within_limits() && made.is_lent(LINK) {
             made.links = (0..sizes.frames as usize)
                 .map(|frame| made.get(LINK, frame))
                 .collect();
+        }
+        if matches!(ask, Ask::GiveBack(..)) && made.passes(|_| true) {
+            made.hand = made.hand();
         }
         if let (Some((space, pages)), true) = (made.pages(), made.passes(|_| true)) {
             let next = made.pool(pages.clone().count()).into_iter();
@@ -96,6 +131,37 @@ impl Made<'_> {
                 .space()
                 .is_some_and(|space| space < self.sizes.spaces)
             && self.ask.is_inside(&self.sizes)
+    }
+
+    // ---- the lists, for hand-backs
+
+    // What a call is about to hand back, as far as the tables have places and frames for it.
+    fn hand(&self) -> Option<Hand> {
+        let (t, frames) = (self.sizes.places() as usize, self.sizes.frames as usize);
+        let get = |table: usize, entry: usize| Some(self.get(table, entry) as usize);
+        let is_place = |place: &usize| *place < t;
+        let frame = |place: usize| get(TABLE, place).filter(|frame| *frame < frames);
+        let start = get(CACHE, self.place).filter(is_place)?;
+        let last = get(COUNT, start)?.checked_sub(1)?;
+        let position = get(HELPER, self.place).filter(|position| *position <= last)?;
+        let page = |entry: usize| get(STACK, entry).filter(is_place);
+        is_place(&(start + last)).then_some(())?;
+        let newest = page(start + last)?;
+        let after = page(start + last.min(position + 1))?;
+        Some(Hand {
+            start,
+            position,
+            last,
+            newest,
+            frame: frame(self.place)?,
+            after: frame(after)?,
+            newest_frame: frame(newest)?,
+        })
+    }
+
+    // What was handed back, if it was.
+    fn handed(&self, answer: &Answer) -> Option<Hand> {
+        self.hand.filter(|_| answer.kind == DONE)
     }
 
     // ---- the RAM, for touches and writes
@@ -185,10 +251,10 @@ impl Made<'_> {
         }
     }
 
-    // Asks the library again, with all of the RAM that is needed.
-    fn with_ram(&self) -> Answer {
+    // Asks the library again, with all of a buffer that is needed.
+    fn with(&self, buffer: usize) -> Answer {
         let mut lent = self.loan.lent;
-        lent[RAM] = self.sizes.needed()[RAM];
+        lent[buffer] = self.sizes.needed()[buffer];
         let Loan { head, at, own, .. } = *self.loan;
         unsafe {
             ask_library(
@@ -227,6 +293,24 @@ impl Made<'_> {
     fn set(&self, table: usize, entry: usize, word: u32) {
         let at = (self.loan.at[table] as *mut u32).wrapping_add(entry);
         unsafe { at.write_volatile(word) }
+    }
+
+    // Two positions of a region's list are exchanged, and the chain is as it was.
+    fn exchange(&self, start: usize, one: usize, other: usize) {
+        let [first, second] = [one, other].map(|position| self.get(STACK, start + position));
+        for (position, page) in [(one, second), (other, first)] {
+            self.set(STACK, start + position, page);
+            if u64::from(page) < self.sizes.places() {
+                self.set(HELPER, page as usize, position as u32);
+            }
+        }
+    }
+
+    // The newest goes from a page's position to the end, the pages behind it one forward, as a list that closes up; the chain is as it was.
+    fn close_up(&self, hand: &Hand) {
+        for position in hand.position..hand.last - 1 {
+            self.exchange(hand.start, position, position + 1);
+        }
     }
 
     fn flip(&self, table: usize, entry: usize) {
@@ -515,6 +599,160 @@ const FAULTS: &[(&str, Fault)] = &[
         }
         _ => answer,
     }),
+    // ---- "Hand back one page"; those that change what they may not show on any memory too
+    ("give_back leaves the moved page's helper", |m, answer| {
+        if let Some(hand) = m.handed(&answer).filter(|hand| !hand.is_newest()) {
+            m.set(HELPER, hand.newest, hand.last as u32);
+        }
+        answer
+    }),
+    ("give_back closes the stack up", |m, answer| {
+        if let Some(hand) = m.handed(&answer).filter(Hand::is_farther) {
+            m.close_up(&hand);
+        }
+        answer
+    }),
+    ("give_back leaves the chain behind the page", |m, answer| {
+        if let Some(hand) = m.handed(&answer).filter(Hand::is_farther) {
+            m.set(LINK, hand.after, m.links[hand.after]);
+        }
+        answer
+    }),
+    ("give_back leaves the chain before the page", |m, answer| {
+        if let Some(hand) = m.handed(&answer).filter(Hand::is_farther) {
+            m.set(LINK, hand.newest_frame, m.links[hand.newest_frame]);
+        }
+        answer
+    }),
+    (
+        "give_back takes the newest's neighbour for any other",
+        |m, answer| {
+            if let Some(hand) = m.handed(&answer).filter(Hand::is_neighbour) {
+                m.set(LINK, hand.newest_frame, hand.newest_frame as u32);
+            }
+            answer
+        },
+    ),
+    ("give_back moves something for the newest", |m, answer| {
+        let hand = m.handed(&answer).filter(Hand::is_newest);
+        if let Some(hand) = hand.filter(|hand| hand.last > 1) {
+            m.exchange(hand.start, 0, hand.last - 1);
+        }
+        answer
+    }),
+    ("give_back keeps its count", |m, answer| {
+        if let Some(hand) = m.handed(&answer) {
+            m.set(COUNT, hand.start, hand.last as u32 + 1);
+        }
+        answer
+    }),
+    ("give_back puts the frame behind the first", |m, answer| {
+        let first = m.head.first as usize;
+        let is_more = m.head.many > 0 && first < m.links.len();
+        if let Some(hand) = m.handed(&answer).filter(|_| is_more) {
+            m.set(LINK, hand.frame, m.links[first]);
+            m.set(LINK, first, hand.frame as u32);
+            unsafe { (*m.loan.head).first = m.head.first };
+        }
+        answer
+    }),
+    ("give_back counts its frame twice", |m, answer| {
+        if m.handed(&answer).is_some() {
+            m.change_head(|head| head.many += 1);
+        }
+        answer
+    }),
+    ("give_back drops a start without pages", |m, answer| {
+        let pages = m.sizes.pages;
+        if let Some(hand) = m.handed(&answer).filter(|hand| hand.last == 0) {
+            let start = hand.start as u64;
+            unsafe { ask_library(&Ask::Drop(start / pages, start % pages), m.loan) };
+        }
+        answer
+    }),
+    ("give_back changes the page table", |m, answer| {
+        if m.handed(&answer).is_some() {
+            let is_clear = m.get(TABLE, m.place) == 0;
+            m.set(TABLE, m.place, is_clear.into());
+        }
+        answer
+    }),
+    ("give_back changes the region cache", |m, answer| {
+        if m.handed(&answer).is_some() {
+            m.flip(CACHE, m.place);
+        }
+        answer
+    }),
+    ("give_back changes two helper words", |m, answer| {
+        if let Some(hand) = m.handed(&answer).filter(|hand| !hand.is_newest()) {
+            m.flip(HELPER, m.place);
+            m.set(HELPER, hand.newest, hand.last as u32 + 1);
+        }
+        answer
+    }),
+    ("give_back changes its frame's bytes", |m, answer| {
+        if let Some(hand) = m.handed(&answer).filter(|_| m.is_lent(RAM)) {
+            m.flip_byte(m.loan.at[RAM], hand.frame << m.head.page_shift);
+        }
+        answer
+    }),
+    ("give_back changes the frames never given", |m, answer| {
+        if m.handed(&answer).is_some() {
+            m.change_head(|head| head.fresh ^= 1);
+        }
+        answer
+    }),
+    ("give_back changes a word and answers 10", |m, answer| {
+        if let (Ask::GiveBack(..), 10) = (m.ask, answer.kind) {
+            m.flip(STACK, m.place);
+        }
+        answer
+    }),
+    ("give_back changes a word and answers 9", |m, answer| {
+        if let (Ask::GiveBack(..), 9) = (m.ask, answer.kind) {
+            m.flip(COUNT, m.place);
+        }
+        answer
+    }),
+    (
+        "give_back is done with an absent page",
+        |m, answer| match m.ask {
+            Ask::GiveBack(..) if answer.kind == 10 => refusal(DONE),
+            _ => answer,
+        },
+    ),
+    ("give_back answers 10 for 4", |m, answer| match m.ask {
+        Ask::GiveBack(..) if answer.kind == 4 => refusal(10),
+        _ => answer,
+    }),
+    ("give_back tells of index words", |m, answer| match m.ask {
+        Ask::GiveBack(..) if answer.kind == 10 => Answer { words: 1, ..answer },
+        _ => answer,
+    }),
+    ("give_back tells which frame", |m, answer| {
+        let hand = m.handed(&answer);
+        Answer {
+            value: hand.map_or(answer.value, |hand| hand.frame as u64),
+            ..answer
+        }
+    }),
+    ("give_back asks for the RAM", |m, answer| match m.ask {
+        Ask::GiveBack(..) if m.sizes.within_limits() && !m.is_lent(RAM) => refusal(1),
+        _ => answer,
+    }),
+    (
+        "give_back doesn't ask how long the link is",
+        |m, answer| match m.ask {
+            Ask::GiveBack(..) if answer.kind == 1 && m.passes(|b| b != LINK) => m.with(LINK),
+            _ => answer,
+        },
+    ),
+    ("give_back reads an entry after its cache", |m, answer| {
+        if let Ask::GiveBack(..) = m.ask {
+            m.get(CACHE, m.loan.lent[CACHE] as usize);
+        }
+        answer
+    }),
     // ---- "A new page must read as zeros"; those that leave an old byte show in two runs too
     ("touch leaves the old bytes", |m, answer| {
         if answer.kind == NEW {
@@ -592,7 +830,7 @@ const FAULTS: &[(&str, Fault)] = &[
     (
         "touch doesn't ask how long the RAM is",
         |m, answer| match m.ask {
-            Ask::Touch(..) if answer.kind == 1 && m.passes(|b| b != RAM) => m.with_ram(),
+            Ask::Touch(..) if answer.kind == 1 && m.passes(|b| b != RAM) => m.with(RAM),
             _ => answer,
         },
     ),

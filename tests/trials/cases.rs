@@ -1,8 +1,9 @@
 // Which of the cases that must come about an honest call was.
 use crate::entrance::{Answer, BYTES, DONE, NEW, PAGES, REGIONS};
-use crate::honest::Trial;
+use crate::honest::{Hand, Trial};
 use crate::plain::{Ask, Call, Machine};
 use crate::tally::{lacks_ram_alone, Case};
+use std::collections::BTreeSet;
 
 // Where bytes other than 0 stood before a touch or write, so that it shows what is cleared and what is not.
 #[derive(Default)]
@@ -14,6 +15,28 @@ pub struct Old {
     behind: bool,
     // in a resident page of the span, beside the span
     beside: bool,
+}
+
+// What hand-backs have left that a later call shows.
+#[derive(Default)]
+pub struct Handed {
+    // the starts of regions whose list has another order than that of mapping, and of those that have lost their last page
+    moved: BTreeSet<u64>,
+    emptied: BTreeSet<u64>,
+    // the frame that came back last
+    frame: Option<u64>,
+}
+
+// Where in its region's list a page stood.
+fn position(hand: &Hand) -> Case {
+    match (hand.position, hand.list.len() - hand.position - 1) {
+        (0, 0) => Case::HandedBackTheOnlyOne,
+        (_, 0) => Case::HandedBackTheNewest,
+        (0, 1) => Case::HandedBackTheOlderOfTwo,
+        (_, 1) => Case::HandedBackBeforeTheNewest,
+        (0, _) => Case::HandedBackTheOldest,
+        _ => Case::HandedBackInTheMiddle,
+    }
 }
 
 // The frame of a page of a span, and whether it is still to be mapped, as the next ones of the pool one after another.
@@ -186,6 +209,61 @@ impl Trial<'_> {
                     kind == REGIONS && answer.value == 0 && *room == 0,
                 );
                 cases.case(Case::ListedNoSpaceWithoutRoom, kind == 2 && *room == 0);
+            }
+            _ => {}
+        }
+    }
+
+    // After a call that handed a page back.
+    pub fn note_hand_back(&mut self, hand: &Hand) {
+        let (cases, handed) = (&mut self.tally, &mut self.handed);
+        let many = hand.list.len();
+        cases.case(position(hand), true);
+        cases.case(Case::HandedBackAmong65536, many == 65_536);
+        handed.frame = Some(hand.list[hand.position].1);
+        // without the last but one, the list is as if it had closed up
+        if hand.position + 2 < many {
+            handed.moved.insert(hand.start);
+        }
+        if many == 1 {
+            handed.moved.remove(&hand.start);
+            handed.emptied.insert(hand.start);
+        }
+    }
+
+    // After a call that can show what hand-backs have left.
+    pub fn note_after_hand_backs(&mut self, call: &Call, answer: &Answer) {
+        let (machine, cases, handed) = (&self.machine, &mut self.tally, &mut self.handed);
+        let sizes = machine.sizes();
+        if let (Ask::Touch(..), NEW) | (Ask::Write(..), DONE) = (&call.ask, answer.kind) {
+            let is_empty = |start: &u64| machine.list_of(*start).is_empty();
+            handed.emptied.retain(is_empty);
+        }
+        match (&call.ask, answer.kind) {
+            (Ask::GiveBack(..), 10) => cases.case(
+                Case::HandedBackAbsentWithoutFrames,
+                machine.pool().is_empty(),
+            ),
+            (Ask::Start(_), DONE) => *handed = Handed::default(),
+            (Ask::Touch(..), NEW) => cases.case(
+                Case::TouchedTheFrameHandedBack,
+                handed.frame == Some(answer.value),
+            ),
+            (Ask::Release(space, page), PAGES) => {
+                let is_moved = handed.moved.remove(&sizes.place(*space, *page));
+                cases.case(
+                    Case::ReleasedInAnotherOrderThanMapped,
+                    is_moved && answer.value > 1,
+                );
+            }
+            (Ask::Mark(space, page), DONE) if *page > 0 => {
+                let cut = machine.region(sizes.place(*space, *page) - 1);
+                let is_emptied = cut.is_some_and(|start| handed.emptied.contains(&start));
+                cases.case(Case::MarkedInARegionEmptiedByAHandBack, is_emptied);
+            }
+            (Ask::Drop(space, page), DONE) => {
+                let is_emptied = handed.emptied.remove(&sizes.place(*space, *page));
+                cases.case(Case::DroppedAfterItsLastPageWasHandedBack, is_emptied);
             }
             _ => {}
         }

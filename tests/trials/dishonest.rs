@@ -5,7 +5,7 @@ use crate::anything::{Anything, HEAD, OWN, PARTS};
 use crate::draw::Draw;
 use crate::entrance::{self, Answer, Head};
 use crate::garbage::KINDS;
-use crate::memory::{COUNT, INDEX, LINK, NAMES, RAM, TABLE};
+use crate::memory::{COUNT, HELPER, INDEX, LINK, NAMES, RAM, STACK, TABLE};
 use crate::plain::{Ask, Call, Lent, Sizes};
 use crate::tally::{lacks_ram_alone, line, which, ANSWERS};
 use crate::traffic::favourites;
@@ -19,11 +19,16 @@ pub struct Count {
     pub rounds: u64,
     pub nines: u64,
     // by call: refused with 1 to 3, and got past them
-    pub outcomes: [[u64; 2]; 11],
+    pub outcomes: [[u64; 2]; 12],
     // touches and writes that cleared bytes other than 0, and touches refused for the RAM alone
     pub cleared: [u64; 2],
     pub short: u64,
+    // hand-backs: done, and refused with 4, 9 and 10
+    pub handed: [u64; 4],
 }
+
+// The kinds of answer that are counted of hand-backs.
+const HANDED: [u32; 4] = [entrance::DONE, 4, 9, 10];
 
 // How large a round's memory is; tiny is for an address checker.
 #[derive(Clone, Copy, Debug, PartialEq)]
@@ -247,7 +252,8 @@ impl Round {
     fn ask(&mut self) -> Ask {
         let (space, page) = self.space_and_page();
         let (address, count) = self.span(page);
-        match self.draw.weighed(&[2, 8, 8, 14, 10, 10, 4, 8, 12, 14, 8]) {
+        let weights = [2, 8, 8, 14, 10, 10, 4, 8, 12, 14, 8, 14];
+        match self.draw.weighed(&weights) {
             0 => Ask::Start(self.start_sizes()),
             1 => Ask::Mark(space, page),
             2 => Ask::Drop(space, page),
@@ -258,11 +264,12 @@ impl Round {
             7 => Ask::Translate(space, address),
             8 => Ask::Read(space, address, count),
             9 => Ask::Write(space, address, self.draw.bytes(count)),
-            _ => {
+            10 => {
                 let most = self.longest / 12;
                 let any = self.draw.below(most + 1);
                 Ask::List(space, self.draw.among(&[0, 1, 3, any, most]))
             }
+            _ => Ask::GiveBack(space, page),
         }
     }
 
@@ -306,11 +313,11 @@ impl Round {
         count.calls += 1;
         count.nines += u64::from(answer.kind == 9);
         count.outcomes[which(&call.ask)][usize::from(call.check(&before.sizes()).is_ok())] += 1;
-        self.count_clearing(&call, &before, &answer, count);
+        self.count_answer(&call, &before, &answer, count);
         Ok(())
     }
 
-    fn count_clearing(&self, call: &Call, before: &Head, answer: &Answer, count: &mut Count) {
+    fn count_answer(&self, call: &Call, before: &Head, answer: &Answer, count: &mut Count) {
         match (&call.ask, answer.kind) {
             (Ask::Touch(..), 1) => {
                 count.short += u64::from(lacks_ram_alone(call, &before.sizes()));
@@ -320,6 +327,10 @@ impl Round {
             }
             (Ask::Write(_, _, bytes), entrance::DONE) if self.mapped(before) > Some(0) => {
                 count.cleared[1] += u64::from(self.memory.changed(RAM).len() > bytes.len());
+            }
+            (Ask::GiveBack(..), kind) => {
+                let which = HANDED.iter().position(|counted| *counted == kind);
+                which.into_iter().for_each(|which| count.handed[which] += 1);
             }
             _ => {}
         }
@@ -439,6 +450,14 @@ impl Round {
                 }
             }
             Ask::Release(..) => (most[COUNT], most[LINK], most[HEAD]) = (1, 1, 7),
+            // W-205: "At most six table words and the head change"
+            Ask::GiveBack(..) => {
+                (most[COUNT], most[HELPER], most[STACK], most[LINK]) = (1, 1, 1, 3);
+                most[HEAD] = 2;
+                if !self.has_one_frame_more(before) {
+                    return Err("and the pool got not one frame".to_string());
+                }
+            }
             Ask::Read(..) => (most[OWN], needed[OWN]) = (own, own),
             Ask::Write(space, address, bytes) if !bytes.is_empty() => {
                 let span = sizes.span(*address, bytes.len() as u64);
@@ -494,6 +513,14 @@ impl Round {
     fn mapped(&self, before: &Head) -> Option<u64> {
         let left = |h: &Head| u64::from(h.many) + u64::from(h.frames.saturating_sub(h.fresh));
         left(before).checked_sub(left(&self.memory.head()))
+    }
+
+    // Whether the pool has one frame more and a frame at its front; nothing else of the head is other than it was.
+    fn has_one_frame_more(&self, before: &Head) -> bool {
+        let (now, mut should) = (self.memory.head(), *before);
+        should.first = now.first;
+        should.many = before.many.wrapping_add(1);
+        now == should && should.many > 0 && now.first < now.frames
     }
 
     // ---- W-201: "the bytes of the frames it maps too; beyond these and a write's span no RAM byte changes"

@@ -125,6 +125,11 @@ pub mod library {
             index: Words, index_len: usize, count: Table, count_len: usize,
             table: Table, table_len: usize, stack: Table, stack_len: usize,
             link: Table, link_len: usize, file: *mut u8, file_len: usize) -> Answer;
+        pub fn corwystal_give_back(head: *mut Head, space: u32, page: u32,
+            index: Words, index_len: usize, count: Table, count_len: usize,
+            table: Table, table_len: usize, helper: Table, helper_len: usize,
+            stack: Table, stack_len: usize, cache: Table, cache_len: usize,
+            link: Table, link_len: usize) -> Answer;
     }
 }
 
@@ -180,5 +185,7 @@ pub unsafe fn ask_library(ask: &Ask, loan: &Loan) -> Answer {
             room as usize, index, n[0], count, n[1]),
         Ask::WriteMap(room) => library::corwystal_write_map(head, index, n[0], count, n[1], table, n[2], stack, n[4],
             link, n[6], loan.own, room as usize),
+        Ask::GiveBack(space, page) => library::corwystal_give_back(head, narrow(space), narrow(page),
+            index, n[0], count, n[1], table, n[2], helper, n[3], stack, n[4], cache, n[5], link, n[6]),
     }
 }

@@ -1,9 +1,11 @@
 // One honest trial: the same calls for the pager and for the plain machine, on memory that held
 // garbage before the start. Answers, buffers and what each call changed are compared after every one.
+use crate::cases::Handed;
 use crate::draw::Draw;
 use crate::entrance::{self, Answer, Loan, DONE};
 use crate::garbage::{index_of, Garbage};
-use crate::memory::{Allowed, Memory, BYTES, COUNT, HEAD, INDEX, LINK, PARTS, READ, RECORDS};
+use crate::memory::{Allowed, Memory, BYTES, COUNT, HEAD, HELPER, INDEX, LINK, PARTS};
+use crate::memory::{READ, RECORDS, STACK};
 use crate::plain::{self, Ask, Call, Machine, Sizes};
 use crate::tally::{line, Tally};
 use crate::traffic::{favourites, Mix, Traffic};
@@ -29,7 +31,20 @@ pub struct Trial<'a> {
     pub calls: u64,
     // starts that were accepted
     pub starts: u64,
+    // what hand-backs have left
+    pub handed: Handed,
 }
+
+// A page that a call hands back: the list of its region before that, by the region's start, and the page's position there.
+pub struct Hand {
+    pub start: u64,
+    pub list: Vec<(u64, u64)>,
+    pub position: usize,
+}
+
+// The head's numbers of the pool that a hand-back changes.
+const FIRST: u64 = 4;
+const MANY: u64 = 5;
 
 // The plain machine's answer, as the entrance gives it.
 fn told(answer: &plain::Answer, count: u64) -> Answer {
@@ -86,6 +101,7 @@ impl Trial<'_> {
             tally,
             calls: 0,
             starts: 0,
+            handed: Handed::default(),
         }
     }
 
@@ -152,7 +168,7 @@ impl Trial<'_> {
         let loan = self.loan(&call);
         let before = self.machine.sizes();
         let pool = self.machine.pool().len();
-        let old = self.old(&call);
+        let (old, hand) = (self.old(&call), self.hand(&call));
         let answer = watch::during(&|| self.tell(&call), || unsafe {
             entrance::make(&call.ask, &loan)
         });
@@ -171,6 +187,7 @@ impl Trial<'_> {
         }
         let new = pool.saturating_sub(self.machine.pool().len());
         self.expect(&call, &should, new);
+        hand.iter().for_each(|hand| self.expect_hand_back(hand));
         let allowed = self.allowed(&call, &answer, new);
         let same = self.memory.compare(self.machine.ram(), &allowed);
         same.and_then(|()| self.sizes_held())
@@ -178,8 +195,27 @@ impl Trial<'_> {
         self.tally.count(&call, &answer, &before);
         self.starts += u64::from(matches!((&call.ask, answer.kind), (Ask::Start(_), DONE)));
         self.note(&call, &answer, pool as u64, &old);
+        self.note_after_hand_backs(&call, &answer);
+        hand.iter().for_each(|hand| self.note_hand_back(hand));
         self.calls += 1;
         Ok(answer)
+    }
+
+    // What a call is about to hand back, if it is accepted.
+    fn hand(&self, call: &Call) -> Option<Hand> {
+        let sizes = self.machine.sizes();
+        let (Ask::GiveBack(space, page), Ok(())) = (&call.ask, call.check(&sizes)) else {
+            return None;
+        };
+        let place = sizes.place(*space, *page);
+        let start = self.machine.region(place)?;
+        let list = self.machine.list_of(start).to_vec();
+        let position = list.iter().position(|pair| pair.0 == place)?;
+        Some(Hand {
+            start,
+            list,
+            position,
+        })
     }
 
     // ---- what the memory should hold after a call
@@ -249,6 +285,28 @@ impl Trial<'_> {
         }
     }
 
+    // W-205: "At most six table words and the head change". The stack has a region's pages from its start's entry on, the helper each
+    // page's position there; a frame's link is the frame of the page before it, a free one's the next frame of the pool.
+    fn expect_hand_back(&mut self, hand: &Hand) {
+        let (memory, list) = (&mut self.memory, &hand.list);
+        let (position, newest) = (hand.position as u64, list.len() - 1);
+        let (frame, (page, last)) = (list[hand.position].1, list[newest]);
+        memory.expect(COUNT, hand.start, newest as u64);
+        // of the newest itself both are as they were
+        memory.expect(HELPER, page, position);
+        memory.expect(STACK, hand.start + position, page);
+        if let Some((_, next)) = list.get(hand.position + 1) {
+            let before = memory.should(LINK, frame);
+            memory.expect(LINK, *next, last);
+            // in this order: the next one may be the last
+            memory.expect(LINK, last, before);
+        }
+        let [first, many] = [FIRST, MANY].map(|number| memory.should(HEAD, number));
+        memory.expect(LINK, frame, first);
+        memory.expect(HEAD, FIRST, frame);
+        memory.expect(HEAD, MANY, many + 1);
+    }
+
     // The span's bytes; of one that maps all bytes of its pages, for those around it are cleared.
     fn expect_write(&mut self, space: u64, address: u64, count: u64, new: usize) {
         let sizes = self.machine.sizes();
@@ -274,7 +332,8 @@ impl Trial<'_> {
             .expect_own(RECORDS, self.memory.own_records(room), &bytes);
     }
 
-    // "What a call may change", in the words that the program chooses. It chooses none of the RAM: the machine has each byte of it.
+    // "What a call may change", in the words that the program chooses. It chooses none of the RAM: the machine has each byte of it; nor
+    // any of a hand-back's.
     fn allowed(&mut self, call: &Call, answer: &Answer, new: usize) -> Allowed {
         let mut words = [0; PARTS];
         // page table, helper, stack, region cache, frame link

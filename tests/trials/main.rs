@@ -46,7 +46,7 @@ fn dishonest(seed: u64, scale: Scale, calls: u64, count: &mut Count) {
     played.unwrap_or_else(|e| fail(e));
 }
 
-// Every call has been refused with 1 to 3 and has got past them; touches and writes have cleared.
+// Every call has been refused with 1 to 3 and has got past them; touches and writes have cleared; hand-backs have been done and refused.
 fn tell(count: &Count, how: &str) {
     for (name, outcomes) in CALLS.iter().zip(&count.outcomes) {
         if outcomes.contains(&0) {
@@ -58,6 +58,10 @@ fn tell(count: &Count, how: &str) {
         fail(format!(
             "{cleared:?} touches and writes cleared a frame, {short} touches lacked RAM alone"
         ));
+    }
+    if count.handed.contains(&0) {
+        let [done, four, nine, ten] = count.handed;
+        fail(format!("{done} pages were handed back, {four} hand-backs refused with 4, {nine} with 9, {ten} with 10"));
     }
     let Count {
         calls,

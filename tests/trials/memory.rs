@@ -10,6 +10,8 @@ use crate::watch::{Arena, Slot, Wanted, PAGE};
 pub const INDEX: usize = 0;
 pub const COUNT: usize = 1;
 pub const TABLE: usize = 2;
+pub const HELPER: usize = 3;
+pub const STACK: usize = 4;
 pub const LINK: usize = 6;
 pub const RAM: usize = 7;
 pub const READ: usize = 8;
@@ -216,6 +218,14 @@ impl Memory {
         let width = WIDTHS[part];
         let first = self.slot(part).first + entry as usize * width;
         self.expect_at(part, first, &value.to_le_bytes()[..width]);
+    }
+
+    // What an entry of a table or of the head should hold.
+    pub fn should(&self, part: usize, entry: u64) -> u64 {
+        let slot = self.slot(part);
+        let first = slot.first - slot.pages.0 * PAGE + entry as usize * WIDTHS[part];
+        let word = self.shadows[part][first..first + 4].try_into().unwrap();
+        u32::from_le_bytes(word).into()
     }
 
     // The first entries of the index or a table are 0.

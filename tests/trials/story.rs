@@ -1,9 +1,10 @@
 // The course of an honest trial: calls before any start, marks, a mix of all calls, an emptied pool,
-// releases, starts with other sizes on what was left, and at the end all frames in the pool's order.
+// hand-backs, releases, starts with other sizes on what was left, and at the end all frames in the
+// pool's order.
 use crate::honest::Trial;
 use crate::memory::RAM;
 use crate::plain::{Ask, Call, Sizes};
-use crate::traffic::{favourites, HUNGRY, MIXED, PAGES, SPANS};
+use crate::traffic::{favourites, HANDED, HUNGRY, MIXED, PAGES, SPANS};
 
 // How much of each a trial has.
 #[derive(Clone, Copy)]
@@ -102,6 +103,7 @@ impl Trial<'_> {
         self.drawn(course.mixed, &HUNGRY)?;
         self.empty_pool()?;
         self.drawn(course.mixed, &HUNGRY)?;
+        self.drawn(course.mixed, &HANDED)?;
         self.compare_all()?;
         self.release_some(4)?;
         self.drawn(course.mixed, &MIXED)
@@ -190,8 +192,25 @@ impl Trial<'_> {
         }
     }
 
+    // Some resident pages are handed back, and touched again from the first of them on: their regions' lists have another order then.
+    fn hand_back_some(&mut self, many: u64) -> Result<(), String> {
+        let pages = self.machine.sizes().pages;
+        let mut places = Vec::new();
+        for _ in 0..many {
+            let Some(place) = self.traffic.some_listed(&self.machine) else {
+                break;
+            };
+            self.surely(|| Ask::GiveBack(place / pages, place % pages))?;
+            places.push(place);
+        }
+        for place in places {
+            self.surely(|| Ask::Touch(place / pages, place % pages))?;
+        }
+        Ok(())
+    }
+
     // All frames in the pool's order: every space is one region, its pages are touched from the first
-    // on until no frame is left, and all go back at once.
+    // on until no frame is left, some are handed back and touched again, and all go back at once.
     fn drain(&mut self) -> Result<(), String> {
         let Sizes {
             spaces,
@@ -222,8 +241,14 @@ impl Trial<'_> {
             self.surely(|| Ask::Read(0, 0, span))?;
             self.surely(|| Ask::Translate(0, resident - 1))?;
         }
+        self.hand_back_some(30)?;
+        let resident = self.machine.resident_pages();
         for space in 0..spaces {
             self.surely(|| Ask::Release(space, 0))?;
+        }
+        // the first of them once more: the order in which they went back shows
+        for page in 0..resident.min(pages).min(300) {
+            self.surely(|| Ask::Touch(0, page))?;
         }
         self.surely(|| Ask::Free)
     }

@@ -1,5 +1,5 @@
-// What the trials came to: every answer that document 01 gives a call must have been given, or the
-// trials say too little.
+// What the trials came to: every answer that document 01 or 02 gives a call must have been given, or
+// the trials say too little.
 use crate::entrance::{
     Answer, ABSENT, AT, BYTES, DONE, FRAMES, MAP, NEW, OLD, PAGES, REGIONS, RESIDENT,
 };
@@ -7,7 +7,7 @@ use crate::memory::RAM;
 use crate::plain::{Ask, Call, Sizes};
 use std::collections::HashSet;
 
-pub const CALLS: [&str; 12] = [
+pub const CALLS: [&str; 13] = [
     "start",
     "mark",
     "drop",
@@ -19,6 +19,7 @@ pub const CALLS: [&str; 12] = [
     "read",
     "write",
     "list",
+    "give_back",
     "write_map",
 ];
 
@@ -35,12 +36,13 @@ pub fn which(ask: &Ask) -> usize {
         Ask::Read(..) => 8,
         Ask::Write(..) => 9,
         Ask::List(..) => 10,
-        Ask::WriteMap(_) => 11,
+        Ask::GiveBack(..) => 11,
+        Ask::WriteMap(_) => 12,
     }
 }
 
 // The answers of each call on memory that the calls left: "Refusal numbers", then what it answers.
-pub const ANSWERS: [&[u32]; 12] = [
+pub const ANSWERS: [&[u32]; 13] = [
     &[1, DONE],
     &[1, 2, 3, 6, 7, DONE],
     &[1, 2, 3, 5, 7, DONE],
@@ -52,6 +54,7 @@ pub const ANSWERS: [&[u32]; 12] = [
     &[1, 2, 3, 4, 10, BYTES],
     &[1, 2, 3, 4, 8, DONE],
     &[1, 2, 11, REGIONS],
+    &[1, 2, 3, 4, 10, DONE],
     &[1, 13, MAP],
 ];
 
@@ -78,7 +81,7 @@ pub fn line(ask: &Ask) -> String {
         Ask::Start(s) => format!("{name} {} {} {} {}", s.spaces, s.pages, s.frames, s.page),
         Ask::Mark(space, page) | Ask::Drop(space, page) => format!("{name} {space} {page}"),
         Ask::Touch(space, page) | Ask::Look(space, page) => format!("{name} {space} {page}"),
-        Ask::Release(space, page) => format!("{name} {space} {page}"),
+        Ask::Release(space, page) | Ask::GiveBack(space, page) => format!("{name} {space} {page}"),
         Ask::Free => name.to_string(),
         Ask::Translate(space, address) => format!("{name} {space} {address}"),
         Ask::Read(space, address, count) => format!("{name} {space} {address}, {count} bytes"),
@@ -163,6 +166,21 @@ cases! {
     RefusedWriteWithOldBytesToClear,
     // "1 also when the RAM lent to touch is too short"
     ResidentPageTouchedWithoutItsRam,
+    // where in its region's list a page stood that was handed back
+    HandedBackTheOldest,
+    HandedBackInTheMiddle,
+    HandedBackBeforeTheNewest,
+    HandedBackTheOlderOfTwo,
+    HandedBackTheNewest,
+    HandedBackTheOnlyOne,
+    HandedBackAmong65536,
+    // and what came after it
+    ReleasedInAnotherOrderThanMapped,
+    TouchedTheFrameHandedBack,
+    MarkedInARegionEmptiedByAHandBack,
+    DroppedAfterItsLastPageWasHandedBack,
+    // an empty pool is no reason
+    HandedBackAbsentWithoutFrames,
 }
 
 #[derive(Default)]
@@ -263,7 +281,7 @@ fn wanted() -> Vec<Seen> {
 }
 
 // One of each call.
-fn examples() -> [Ask; 11] {
+fn examples() -> [Ask; 12] {
     let sizes = Sizes {
         spaces: 1,
         pages: 1,
@@ -282,5 +300,6 @@ fn examples() -> [Ask; 11] {
         Ask::Read(0, 0, 0),
         Ask::Write(0, 0, Vec::new()),
         Ask::List(0, 0),
+        Ask::GiveBack(0, 0),
     ]
 }

@@ -5,13 +5,15 @@ use crate::plain::{Ask, Call, Lent, Machine, Sizes};
 use crate::watch::UNREACHABLE;
 
 // How often each call is drawn: mark, drop, touch, look, release, free, translate, read, write, list,
-// start.
-pub type Mix = [u64; 11];
+// give back, start.
+pub type Mix = [u64; 12];
 
-pub const MIXED: Mix = [40, 20, 80, 50, 40, 10, 30, 50, 50, 4, 1];
-pub const PAGES: Mix = [60, 40, 120, 90, 60, 10, 10, 10, 10, 2, 0];
-pub const SPANS: Mix = [10, 10, 30, 10, 15, 10, 50, 120, 120, 2, 0];
-pub const HUNGRY: Mix = [20, 10, 120, 40, 4, 20, 10, 20, 60, 2, 0];
+pub const MIXED: Mix = [40, 20, 80, 50, 40, 10, 30, 50, 50, 4, 40, 1];
+pub const PAGES: Mix = [60, 40, 120, 90, 60, 10, 10, 10, 10, 2, 60, 0];
+pub const SPANS: Mix = [10, 10, 30, 10, 15, 10, 50, 120, 120, 2, 30, 0];
+pub const HUNGRY: Mix = [20, 10, 120, 40, 4, 20, 10, 20, 60, 2, 20, 0];
+// lists that are full get another order
+pub const HANDED: Mix = [10, 10, 100, 20, 20, 5, 10, 10, 20, 1, 160, 0];
 
 // Addresses that a careless sum or product would wrap.
 const FAR: [u64; 6] = [
@@ -91,6 +93,16 @@ impl Traffic {
         let newest = list.len() as u64 - 1;
         let which = self.draw.below(list.len() as u64);
         Some(list[self.draw.among(&[0, newest, which, which]) as usize].0)
+    }
+
+    // A resident page by its position in its region's list: the oldest, the newest, the one before it, or any.
+    pub fn some_listed(&mut self, machine: &Machine) -> Option<u64> {
+        let start = machine.region(self.some_resident(machine)?)?;
+        let list = machine.list_of(start);
+        let newest = list.len() - 1;
+        let any = self.draw.below(list.len() as u64) as usize;
+        let position = [0, newest, newest.saturating_sub(1), any];
+        Some(list[self.draw.among(&position)].0)
     }
 
     fn favourite(&mut self) -> u64 {
@@ -214,8 +226,19 @@ impl Traffic {
                 Ask::Write(space, address, self.draw.bytes(count))
             }
             9 => self.list(machine, space),
+            10 => self.give_back(machine, place),
             _ => Ask::Start(self.wrong_sizes(most)),
         }
+    }
+
+    // Mostly of a resident page, else of a place.
+    fn give_back(&mut self, machine: &Machine, place: u64) -> Ask {
+        let place = match self.draw.below(6) {
+            0 => place,
+            _ => self.some_listed(machine).unwrap_or(place),
+        };
+        let (space, page) = self.astray(machine, place);
+        Ask::GiveBack(space, page)
     }
 
     pub fn mark(&mut self, machine: &Machine) -> Ask {
