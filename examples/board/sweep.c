@@ -83,7 +83,13 @@ static void two_gauges(void) {
     ready(corwystal_board_release(&lent, 0, 32));
 }
 
-/* The same with a pool of frames that were never used. */
+/* The same with a fourth page in the first region. */
+static void four_pages(void) {
+    two_gauges();
+    ready(corwystal_board_touch(&lent, 0, 3));
+}
+
+/* Two gauges with a pool of frames that were never used. */
 static void fresh_pool(void) {
     begin(2, 64);
     ready(corwystal_board_mark(&lent, 0, 0));
@@ -148,6 +154,11 @@ static void short_ram(void) {
     lent.ram_len--;
 }
 
+static void short_link(void) {
+    two_gauges();
+    lent.link_len = FRAMES - 1;
+}
+
 /* Memory that somebody else has written: a pool, counts, frames that can't be. */
 static void broken_pool(void) {
     two_gauges();
@@ -170,6 +181,31 @@ static void broken_frames(void) {
 static void broken_head(void) {
     two_gauges();
     lent.head.many = FRAMES + 1;
+    damaged = 1;
+}
+
+/* The same of a region with four pages: a count that no list has room for; the newest page without a frame; the third without one, and without a place. */
+static void broken_count(void) {
+    four_pages();
+    lent.count[0] = 2 * 64 + 1;
+    damaged = 1;
+}
+
+static void newest_without_frame(void) {
+    four_pages();
+    lent.table[3] = FRAMES;
+    damaged = 1;
+}
+
+static void third_without_frame(void) {
+    four_pages();
+    lent.table[2] = FRAMES;
+    damaged = 1;
+}
+
+static void third_without_place(void) {
+    four_pages();
+    lent.stack[2] = UINT32_MAX;
     damaged = 1;
 }
 
@@ -229,7 +265,7 @@ static void short_tables(void) {
 
 /* ---- the call */
 
-enum call { START, MARK, DROP, TOUCH, LOOK, RELEASE, FREE_COUNT, TRANSLATE, READ, WRITE, LIST, WRITE_MAP, READ_MAP, HOW_FULL, SIZES };
+enum call { START, MARK, DROP, TOUCH, LOOK, RELEASE, GIVE_BACK, FREE_COUNT, TRANSLATE, READ, WRITE, LIST, WRITE_MAP, READ_MAP, HOW_FULL, SIZES };
 
 /* Of a map that is read, a word is made another: its place, counted from 1, in `at`, the word in `space`. That of two gauges has sizes in words 0 to 3, rows
    up to word 12, two regions with 3 and 0 pages from word 13 on, one with 1 page from word 25 on, and four frames from word 30 on. */
@@ -287,6 +323,29 @@ static const struct scene {
     {"release", "outside", two_gauges, RELEASE, 2, 0, 0, CORWYSTAL_NO_SPACE},
     {"release", "with broken counts", broken_counts, RELEASE, 0, 0, 0, CORWYSTAL_NOT_OURS},
     {"release", "with broken frames", broken_frames, RELEASE, 0, 0, 0, CORWYSTAL_NOT_OURS},
+    {"give_back", "of the oldest page", two_gauges, GIVE_BACK, 0, 0, 0, CORWYSTAL_DONE},
+    {"give_back", "of a page in the middle", four_pages, GIVE_BACK, 0, 1, 0, CORWYSTAL_DONE},
+    {"give_back", "of the page before the newest", two_gauges, GIVE_BACK, 0, 1, 0, CORWYSTAL_DONE},
+    {"give_back", "of the newest page", two_gauges, GIVE_BACK, 0, 2, 0, CORWYSTAL_DONE},
+    {"give_back", "of the only page", two_gauges, GIVE_BACK, 1, 10, 0, CORWYSTAL_DONE},
+    {"give_back", "onto an unlinked pool", fresh_pool, GIVE_BACK, 0, 0, 0, CORWYSTAL_DONE},
+    {"give_back", "onto an empty pool", empty_pool, GIVE_BACK, 1, 11, 0, CORWYSTAL_DONE},
+    {"give_back", "of an absent page", two_gauges, GIVE_BACK, 0, 33, 0, CORWYSTAL_NOT_RESIDENT},
+    {"give_back", "of an absent page in one layer", one_layer, GIVE_BACK, 0, 63, 0, CORWYSTAL_NOT_RESIDENT},
+    {"give_back", "of an absent page in three layers", three_layers, GIVE_BACK, 0, 4096, 0, CORWYSTAL_NOT_RESIDENT},
+    {"give_back", "without a region", two_gauges, GIVE_BACK, 1, 7, 0, CORWYSTAL_NO_REGION},
+    {"give_back", "without a start in three layers", no_starts, GIVE_BACK, 0, 4096, 0, CORWYSTAL_NO_REGION},
+    {"give_back", "outside", two_gauges, GIVE_BACK, 2, 0, 0, CORWYSTAL_NO_SPACE},
+    {"give_back", "of no page", two_gauges, GIVE_BACK, 0, 64, 0, CORWYSTAL_NO_PAGE},
+    {"give_back", "with a link too short", short_link, GIVE_BACK, 0, 1, 0, CORWYSTAL_NO_SIZE},
+    {"give_back", "with RAM too short", short_ram, GIVE_BACK, 0, 1, 0, CORWYSTAL_DONE},
+    {"give_back", "with broken frames", broken_frames, GIVE_BACK, 0, 1, 0, CORWYSTAL_NOT_OURS},
+    {"give_back", "with a broken count", broken_count, GIVE_BACK, 0, 1, 0, CORWYSTAL_NOT_OURS},
+    {"give_back", "with broken counts", broken_counts, GIVE_BACK, 0, 1, 0, CORWYSTAL_NOT_OURS},
+    {"give_back", "with the newest without a frame", newest_without_frame, GIVE_BACK, 0, 1, 0, CORWYSTAL_NOT_OURS},
+    {"give_back", "with the next without a place", third_without_place, GIVE_BACK, 0, 1, 0, CORWYSTAL_NOT_OURS},
+    {"give_back", "with the next without a frame", third_without_frame, GIVE_BACK, 0, 1, 0, CORWYSTAL_NOT_OURS},
+    {"give_back", "with a broken head", broken_head, GIVE_BACK, 0, 1, 0, CORWYSTAL_NOT_OURS},
     {"free_count", "", two_gauges, FREE_COUNT, 0, 0, 0, CORWYSTAL_FRAMES},
     {"free_count", "before a start", never_started, FREE_COUNT, 0, 0, 0, CORWYSTAL_NO_SIZE},
     {"free_count", "with a broken head", broken_head, FREE_COUNT, 0, 0, 0, CORWYSTAL_NOT_OURS},
@@ -395,6 +454,7 @@ static corwystal_answer answer_of(const struct scene *s) {
     case TOUCH: return corwystal_board_touch(&lent, s->space, page);
     case LOOK: return corwystal_board_look(&lent, s->space, page);
     case RELEASE: return corwystal_board_release(&lent, s->space, page);
+    case GIVE_BACK: return corwystal_board_give_back(&lent, s->space, page);
     case FREE_COUNT: return corwystal_board_free_count(&lent);
     case TRANSLATE: return corwystal_board_translate(&lent, s->space, s->at);
     case READ: return corwystal_board_read(&lent, s->space, s->at, now.bytes, s->n);

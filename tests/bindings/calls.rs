@@ -82,6 +82,72 @@ fn maps(pager: &mut Pager<'_>, map: &[u8]) {
     assert_eq!(pager.free_count(), Ok(3));
 }
 
+// The words of the map from one on: of space 0's one region its pairs, then the pool.
+fn map_words(pager: &Pager<'_>, from: usize) -> Vec<u32> {
+    let mut file = [0; map_bytes(2, 80, 4)];
+    let map = pager.write_map(&mut file).expect("a map");
+    map[4 * from..]
+        .chunks(4)
+        .map(|word| u32::from_le_bytes(word.try_into().expect("four bytes")))
+        .collect()
+}
+
+fn four_pages(pager: &mut Pager<'_>) {
+    for page in 5..9 {
+        assert!(matches!(pager.touch(0, page), Ok(Touched::New { .. })));
+    }
+}
+
+// A pager that has just started: its pages are given back one by one, and a map tells the list and the pool after each.
+fn hand_backs(pager: &mut Pager<'_>) {
+    // behind the contents and the region's start, length and count
+    const LIST: usize = 13 + 3;
+    assert_eq!(pager.mark(0, 0), Ok(()));
+    for page in 0..4 {
+        let frame = page;
+        assert_eq!(pager.touch(0, page), Ok(Touched::New { frame, words: 1 }));
+    }
+    assert_eq!(pager.write(0, 256 + 9, b"d"), Ok(()));
+    assert_eq!(pager.give_back(2, 0), Err(Refusal::NoSpace));
+    assert_eq!(pager.give_back(0, 40), Err(Refusal::NoPage));
+    assert_eq!(pager.give_back(1, 0), Err(Refusal::NoRegion));
+    assert_eq!(pager.give_back(0, 4), Err(Refusal::NotResident));
+    assert_eq!(map_words(pager, LIST), [0, 0, 1, 1, 2, 2, 3, 3]);
+
+    // The newest page takes the position of one in the middle; the bytes stay, and the next new page gets the frame.
+    assert_eq!(pager.give_back(0, 1), Ok(()));
+    assert_eq!(map_words(pager, LIST), [0, 0, 3, 3, 2, 2, 1]);
+    assert_eq!(pager.give_back(0, 1), Err(Refusal::NotResident));
+    assert_eq!(pager.look(0, 1), Ok(Looked::Absent { words: 1 }));
+    assert_eq!(pager.frame(1).map(|bytes| bytes[9]), Some(b'd'));
+    assert_eq!(pager.touch(0, 9), Ok(Touched::New { frame: 1, words: 1 }));
+    assert_eq!(page(pager, 0, 9), [0; 256]);
+    // The newest itself, the one before it, the oldest, the only one; the start stays.
+    assert_eq!(pager.give_back(0, 9), Ok(()));
+    assert_eq!(map_words(pager, LIST), [0, 0, 3, 3, 2, 2, 1]);
+    assert_eq!(pager.give_back(0, 3), Ok(()));
+    assert_eq!(map_words(pager, LIST), [0, 0, 2, 2, 3, 1]);
+    assert_eq!(pager.give_back(0, 0), Ok(()));
+    assert_eq!(map_words(pager, LIST), [2, 2, 0, 3, 1]);
+    assert_eq!(pager.give_back(0, 2), Ok(()));
+    assert_eq!(map_words(pager, LIST), [2, 0, 3, 1]);
+    assert_eq!(pager.mark(0, 0), Err(Refusal::StartAlready));
+    assert_eq!(pager.free_count(), Ok(4));
+
+    // A release goes by the list, the newest page first: after a hand-back in the middle, and after one more just before the newest.
+    four_pages(pager);
+    assert_eq!(pager.give_back(0, 6), Ok(()));
+    assert_eq!(map_words(pager, LIST), [5, 2, 8, 1, 7, 3, 0]);
+    assert_eq!(pager.release(0, 0), Ok(3));
+    assert_eq!(map_words(pager, LIST), [3, 1, 2, 0]);
+    four_pages(pager);
+    assert_eq!(pager.give_back(0, 6), Ok(()));
+    assert_eq!(pager.give_back(0, 8), Ok(()));
+    assert_eq!(map_words(pager, LIST), [5, 3, 7, 2, 0, 1]);
+    assert_eq!(pager.release(0, 0), Ok(2));
+    assert_eq!(map_words(pager, LIST), [2, 3, 0, 1]);
+}
+
 fn main() {
     let needs = SIZES.needs().expect("sizes within their limits");
     assert_eq!(needs.index, index_words(80));
@@ -242,6 +308,9 @@ fn main() {
         Pager::from_map(shorter.memory(), &[]).err(),
         Some(Refusal::NoMap)
     );
+
+    assert_eq!(pager.restart(SIZES), Ok(()));
+    hand_backs(&mut pager);
 
     for number in 1..=13 {
         let said = REFUSALS[number - 1];

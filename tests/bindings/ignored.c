@@ -18,6 +18,7 @@ void ignore(corwystal_board *b, corwystal_region *records, uint8_t *bytes) {
     corwystal_touch(head, 0, 0, TABLES, LENT(link), LENT(ram));
     corwystal_look(head, 0, 0, TABLES);
     corwystal_release(head, 0, 0, LENT(index), LENT(count), LENT(table), LENT(stack), LENT(link));
+    corwystal_give_back(head, 0, 0, TABLES, LENT(link));
     corwystal_free_count(head);
     corwystal_translate(head, 0, 0, TABLES);
     corwystal_read(head, 0, 0, bytes, 1, TABLES, LENT(ram));
@@ -32,6 +33,7 @@ void ignore(corwystal_board *b, corwystal_region *records, uint8_t *bytes) {
     corwystal_board_touch(b, 0, 0);
     corwystal_board_look(b, 0, 0);
     corwystal_board_release(b, 0, 0);
+    corwystal_board_give_back(b, 0, 0);
     corwystal_board_free_count(b);
     corwystal_board_translate(b, 0, 0);
     corwystal_board_read(b, 0, 0, bytes, 1);

@@ -15,6 +15,7 @@ pub fn ignore(pager: &mut Pager<'_>, sizes: Sizes, bytes: &mut [u8], records: &m
     pager.look(0, 0);
     pager.look(0, 0).unwrap();
     pager.release(0, 0);
+    pager.give_back(0, 0);
     pager.free_count();
     pager.translate(0, 0);
     pager.read(0, 0, bytes);

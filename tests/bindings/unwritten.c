@@ -77,7 +77,13 @@ int main(void) {
             expect_zeros(&b, 0, 7 * k, 0, "touch");
             expect(corwystal_board_touch(&b, 0, 7 * k), CORWYSTAL_OLD, "touch again");
             expect(corwystal_board_translate(&b, 1, 7 * k * PAGE), CORWYSTAL_NOT_RESIDENT, "translate");
+            expect(corwystal_board_give_back(&b, 1, 7 * k), CORWYSTAL_NOT_RESIDENT, "hand-back of an absent page");
         }
+        /* of the first region's pages, 0 to 98, one in the middle; the frame is mapped again */
+        expect(corwystal_board_give_back(&b, 0, 49), CORWYSTAL_DONE, "hand-back");
+        expect(corwystal_board_look(&b, 0, 49), CORWYSTAL_ABSENT, "look after a hand-back");
+        expect(corwystal_board_touch(&b, 0, 50), CORWYSTAL_NEW, "touch after a hand-back");
+        expect_zeros(&b, 0, 50, 0, "touch after a hand-back");
         expect(corwystal_board_write(&b, 1, 99 * PAGE + 100, bytes, sizeof bytes), CORWYSTAL_DONE, "write");
         expect(corwystal_board_read(&b, 1, 99 * PAGE + 100, bytes, sizeof bytes), CORWYSTAL_BYTES, "read");
         expect_zeros(&b, 1, 100, 100, "write");

@@ -1,6 +1,7 @@
 /*
- * A new page reads as zeros, whatever its frame held: mapped by touch or by write, at first and after a release; and nothing else of the RAM changes. The
- * RAM is held to a copy of it, to the byte, after each call. Touch with RAM that is too short is refused with 1, and before any other refusal.
+ * A new page reads as zeros, whatever its frame held: mapped by touch or by write, at first, after a release and after a hand-back; and nothing else of
+ * the RAM changes. It is held to a copy of it, to the byte, after each call. Touch with RAM that is too short is refused with 1, and before any other
+ * refusal.
  */
 #include "corwystal_board.h"
 
@@ -101,6 +102,28 @@ static void writes(void) {
     reads("read of another space's new page", 1, 0, 2 * PAGE, PAGE);
 }
 
+/* A hand-back leaves the RAM, and the next new page, in whichever space, gets its frame. */
+static void hand_backs(void) {
+    begin();
+    for (uint32_t page = 0; page < FRAMES; page++) {
+        zeros_in(page);
+        expect("touch", corwystal_board_touch(&board, 0, page), CORWYSTAL_NEW, page);
+    }
+    garbage(13);
+    expect_done("hand-back of a page in the middle", corwystal_board_give_back(&board, 0, 1));
+    expect("look", corwystal_board_look(&board, 0, 1), CORWYSTAL_ABSENT, 0);
+    reads("read of the page that took its position", 0, (FRAMES - 1) * PAGE, (FRAMES - 1) * PAGE, PAGE);
+    zeros_in(1);
+    expect("touch after a hand-back", corwystal_board_touch(&board, 1, 5), CORWYSTAL_NEW, 1);
+    reads("read of another space's new page", 1, 5 * PAGE, PAGE, PAGE);
+    garbage(17);
+    expect_done("hand-back of the only page", corwystal_board_give_back(&board, 1, 5));
+    zeros_in(1), stored(PAGE + 9, 1);
+    expect_done("write after a hand-back", corwystal_board_write(&board, 0, 6 * PAGE + 9, bytes, 1));
+    reads("read of all of it", 0, 6 * PAGE, PAGE, PAGE);
+    expect("hand-back of an absent page", corwystal_board_give_back(&board, 0, 1), CORWYSTAL_NOT_RESIDENT, 0);
+}
+
 /* Touch is lent the whole RAM, also where it maps nothing, and says so before it looks at space and page. */
 static void too_short(void) {
     begin();
@@ -117,6 +140,7 @@ static void too_short(void) {
                                                 CORWYSTAL_LENT(helper), CORWYSTAL_LENT(stack), CORWYSTAL_LENT(cache), CORWYSTAL_LENT(frame_link),
                                                 ram, 0), CORWYSTAL_NO_SIZE, 0);
     expect("look, which isn't lent it", corwystal_board_look(&board, 0, 3), CORWYSTAL_RESIDENT, 0);
+    expect("hand-back, which isn't lent it either", corwystal_board_give_back(&board, 0, 4), CORWYSTAL_NOT_RESIDENT, 0);
     if (memcmp(&head, &board.head, sizeof head) != 0) fault("touch with RAM too short", "the head is another");
     board.ram_len = RAM;
     zeros_in(1);
@@ -127,6 +151,7 @@ int main(void) {
     for (size_t k = 0; k < sizeof bytes; k++) bytes[k] = (uint8_t)(255 - k % 251);
     touches();
     writes();
+    hand_backs();
     too_short();
     return wrong;
 }

@@ -67,11 +67,14 @@ static void pages(void) { region(), touches(0, 3); }
 
 static void full(void) { region(), touches(0, FRAMES); }
 
+/* The last page is the only one that is resident. */
+static void alone(void) { region(), touches(LAST, 1); }
+
 /* The pool's next frame is one that a release gave back. */
 static void used(void) { full(), READY(corwystal_board_release(&b, 0, 0)); }
 
 /* The last page was resident once, so that its words are as good as those of a resident page, but for the one in the stack. */
-static void left(void) { region(), touches(LAST, 1), READY(corwystal_board_release(&b, 0, 0)), touches(0, 3); }
+static void left(void) { alone(), READY(corwystal_board_release(&b, 0, 0)), touches(0, 3); }
 
 /* Two regions, the second empty. */
 static void two(void) { region(), READY(corwystal_board_mark(&b, 0, 4096)), touches(0, 3); }
@@ -186,6 +189,22 @@ static void short_map(void) { pages_map(), b.count_len--; }
     IS(release, no start, pages, CORWYSTAL_NO_START, corwystal_board_release(&b, 0, 1))                                                        \
     IS(release, damaged, damaged, CORWYSTAL_NOT_OURS, corwystal_board_release(&b, 0, 0))                                                       \
     IS(release, too short, shorter, CORWYSTAL_NO_SIZE, corwystal_board_release(&b, 0, 0))                                                      \
+    IS(give_back, oldest, pages, CORWYSTAL_DONE, corwystal_board_give_back(&b, 0, 0))                                                          \
+    IS(give_back, middle, full, CORWYSTAL_DONE, corwystal_board_give_back(&b, 0, 31))                                                          \
+    IS(give_back, before the newest, pages, CORWYSTAL_DONE, corwystal_board_give_back(&b, 0, 1))                                               \
+    IS(give_back, newest, pages, CORWYSTAL_DONE, corwystal_board_give_back(&b, 0, 2))                                                          \
+    IS(give_back, only page, alone, CORWYSTAL_DONE, corwystal_board_give_back(&b, 0, LAST))                                                    \
+    IS(give_back, small, small, CORWYSTAL_DONE, corwystal_board_give_back(&b, 0, 1))                                                           \
+    IS(give_back, same word, pages, CORWYSTAL_NOT_RESIDENT, corwystal_board_give_back(&b, 0, 5))                                               \
+    IS(give_back, last place, pages, CORWYSTAL_NOT_RESIDENT, corwystal_board_give_back(&b, 0, LAST))                                           \
+    IS(give_back, left before, left, CORWYSTAL_NOT_RESIDENT, corwystal_board_give_back(&b, 0, LAST))                                           \
+    IS(give_back, no region, empty, CORWYSTAL_NO_REGION, corwystal_board_give_back(&b, 0, LAST))                                               \
+    IS(give_back, second space, spaces, CORWYSTAL_NO_REGION, corwystal_board_give_back(&b, 1, PLACES / 2 - 1))                                 \
+    IS(give_back, damaged, damaged, CORWYSTAL_NOT_OURS, corwystal_board_give_back(&b, 0, 1))                                                   \
+    IS(give_back, no page, pages, CORWYSTAL_NO_PAGE, corwystal_board_give_back(&b, 0, PLACES))                                                 \
+    IS(give_back, no space, pages, CORWYSTAL_NO_SPACE, corwystal_board_give_back(&b, 1, 1))                                                    \
+    IS(give_back, never, never, CORWYSTAL_NO_SIZE, corwystal_board_give_back(&b, 0, 1))                                                        \
+    IS(give_back, too short, shorter, CORWYSTAL_NO_SIZE, corwystal_board_give_back(&b, 0, 1))                                                  \
     IS(free_count, accepted, used, CORWYSTAL_FRAMES, corwystal_board_free_count(&b))                                                           \
     IS(free_count, never, never, CORWYSTAL_NO_SIZE, corwystal_board_free_count(&b))                                                            \
     IS(translate, resident, pages, CORWYSTAL_AT, corwystal_board_translate(&b, 0, PAGE + 5))                                                   \

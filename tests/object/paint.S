@@ -79,7 +79,7 @@ __wrap_corwystal_\call:
         jmp     painted
         .endr
         .endm
-        by_way_of_painted start, mark, drop, touch, look, release, free_count, translate, read, write, list, write_map, read_map, how_full, sizes
+        by_way_of_painted start, mark, drop, touch, look, release, give_back, free_count, translate, read, write, list, write_map, read_map, how_full, sizes
 
         .globl  deep_104
         .type   deep_104, @function

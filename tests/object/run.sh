@@ -129,6 +129,7 @@ f 'ret' '.section .init_array, "aw"' '.quad 0' | wrong constructor 'section .ini
 
 named corwystal_release 'jmp memmove@PLT' | wrong copies 'corwystal_release: a call of memmove'
 named corwystal_look 'jmp memset@PLT' | wrong clears 'corwystal_look: a call of memset'
+named corwystal_give_back 'jmp memset@PLT' | wrong clears_what_goes_back 'corwystal_give_back: a call of memset'
 by_callee corwystal_touch 'jmp memmove@PLT' | wrong copies_below 'corwystal_touch: a call of memmove, at below'
 by_callee corwystal_translate 'jmp memset@PLT' | wrong clears_below 'corwystal_translate: a call of memset, at below'
 named corwystal_read 'jmp memset@PLT' | wrong read_clears 'corwystal_read: a call of memset'
@@ -147,6 +148,7 @@ named corwystal_read_map 'mov $28, %edx' 'jmp memset@PLT' | wrong fill_of_a_map_
 named corwystal_release '1: dec %edi' 'jne 1b' 'ret' | wrong loop 'corwystal_release: a loop, by the jump back to 0x0'
 named corwystal_free_count 'jmp 2f' '1: dec %edi' '2: test %edi, %edi' 'jne 1b' 'ret' | wrong loop_from_its_middle 'corwystal_free_count: a loop'
 named corwystal_drop '1: jmp 1b' | wrong endless 'corwystal_drop: a loop'
+named corwystal_give_back '1: mov (%rdi), %rdi' 'test %rdi, %rdi' 'jne 1b' 'ret' | wrong walk_of_the_links 'corwystal_give_back: a loop'
 by_callee corwystal_touch '1: shr %rdi' 'jne 1b' 'ret' | wrong loop_below 'corwystal_touch: a loop, by the jump back to 0x0 at below'
 named corwystal_release 'jmp 2f' '1: ret' '2: test %edi, %edi' 'je 1b' 'mov $28, %edx' 'jmp 1b' | right jumps_back
 named corwystal_read 'mov $28, %edx' 'mov %r9, %rdx' 'jmp memmove@PLT' | right copies_bytes

@@ -22,6 +22,7 @@ REMARKS = {
     "touch": "{resident} for a resident page; if it maps, a `memset` of P bytes comes on top",
     "look": "{resident} for a resident page",
     "release": "whatever the region",
+    "give_back": "{middle} for a page in the middle of its region's list, {newest} for the newest",
     "free_count": "",
     "translate": "{resident} for a resident page",
     "read": "{a byte} for a byte, {all frames each} for each page more, and a `memmove` of the bytes: long ones are too long to hold interrupts off",
