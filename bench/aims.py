@@ -8,6 +8,8 @@ import re
 Aim = collections.namedtuple("Aim", "name cases most")
 # A case, as bench/count.c or bench/maps.c names it: what, its size, and the call that is counted. The size of a find is the index words that it reads.
 WORDS = (1, 3, 5)
+# Where in its region's list a page stands that is handed back; the neighbour is just before the newest.
+POSITIONS = ("middle", "neighbour", "newest")
 AIMS = [
     Aim("touch of a resident page", [("touch resident", 0, "touch")], {"checked": 100, "clang_checked": 110}),
     Aim("look at a resident page", [("look resident", 0, "look")], {"checked": 100, "clang_checked": 110}),
@@ -15,6 +17,7 @@ AIMS = [
     Aim("release", [("release", 1, "release")], {"checked": 100, "clang_checked": 120}),
     Aim("touch of an absent page", [("touch absent", words, "touch") for words in WORDS], {"checked": 125, "clang_checked": 135}),
     Aim("look at an absent page", [("look absent", words, "look") for words in WORDS], {"checked": 125, "clang_checked": 135}),
+    Aim("give back of a page", [(f"give back {where}", 0, "give_back") for where in POSITIONS], {"checked": 115, "clang_checked": 125}),
     Aim("mark", [("mark", layers, "mark") for layers in (1, 2, 3)], {"checked": 115}),
     Aim("drop", [("drop", layers, "drop") for layers in (1, 2, 3)], {"checked": 115}),
     Aim("read of one byte", [("read", 1, "read")], {"method": 165}),

@@ -3,11 +3,12 @@
  * tables and on RAM that each engine has filled with a byte of its own, at sizes of one, two and three index layers. A new
  * page is 0 wherever nothing was stored, and each resident page shows the same bytes in all engines. The method must give
  * the pager's every answer, byte and frame, and leave the pager's RAM.
- * The cleared table doesn't know in which order pages were mapped, so its pool's order is the pager's only where each
- * region's pages are mapped ascending; there it must give every answer too, elsewhere all but frames.
- * Then all of it again with the seven calls that have the checks in C in the pager's place; and everything once more with
- * what clang compiled. Then the refusals of these seven calls against the pager's own, on heads, lengths and tables by chance.
- * Last writes by the pager and by the checks in C from the same memory: they leave the same, and a refusal leaves what was.
+ * The cleared table doesn't know the order of a region's list, so its pool's order is the pager's only where each region's
+ * pages are mapped ascending and only the newest is handed back; there it must give every answer too, elsewhere all but frames.
+ * Then all of it again with the eight calls that have the checks in C in the pager's place; and everything once more with
+ * what clang compiled. Then the refusals of these eight calls against the pager's own, on heads, lengths and tables by chance.
+ * Last writes and hand-backs by the pager and by the checks in C from the same memory: they leave the same, and a refusal
+ * leaves what was.
  */
 #include "driver.h"
 
@@ -199,12 +200,12 @@ static void same_index(void)
 static void play(int ascending)
 {
     answer r[ENGINES];
-    uint32_t space = draw(spaces), page = draw(pages), which = draw(16);
+    uint32_t space = draw(spaces), page = draw(pages), which = draw(18);
     size_t address = (size_t)page * PAGE + draw(PAGE), n = draw(MOST);
     if (address + n > (size_t)pages * PAGE)
         n = (size_t)pages * PAGE - address;
     if (ascending && which >= 4) {
-        /* page by page, and all is released before a space begins anew */
+        /* page by page, so that none that is handed back has a newer one; and all is released before a space begins anew */
         if (rising[space] == pages) {
             rising[space] = 0;
             for (uint32_t p = 0; p < pages; p++) {
@@ -236,8 +237,12 @@ static void play(int ascending)
         same("translate", space, page, r, ascending);
     } else if (which < 14) {
         read_span(space, address, n);
-    } else {
+    } else if (which < 16) {
         write_span(space, address, n);
+    } else {
+        for (int i = 0; i < ENGINES; i++)
+            r[i] = e[i].give_back(e[i].state, space, page);
+        same("hand-back", space, page, r, 1);
     }
 }
 
@@ -270,10 +275,10 @@ static const int with_checks[] = {PAGER, CHECKED, CLANG_CHECKED};
 /* An address from which so many bytes end at the end of a space, just before it or just after it. */
 static size_t near_end(const corwystal_head *h, size_t many) { return ((size_t)h->pages << (h->page_shift & 31)) - many + draw(3) - 1; }
 
-/* Refusals 1 to 3 of the seven calls, on any head, lengths and tables, by the pager and by the checks in C of both compilers. */
+/* Refusals 1 to 3 of the eight calls, on any head, lengths and tables, by the pager and by the checks in C of both compilers. */
 static void refusals(void)
 {
-    static const char *const calls[] = {"mark", "drop", "touch", "look", "release", "translate", "write"};
+    static const char *const calls[] = {"mark", "drop", "touch", "look", "release", "hand-back", "translate", "write"};
     corwystal_board *b = all[PAGER].state, whole = *b;
     size_t n = PLACES / 2;
     for (int k = 0; k < 400000; k++) {
@@ -295,9 +300,9 @@ static void refusals(void)
             answer r[3];
             for (int i = 0; i < 3; i++) {
                 const engine *x = &all[with_checks[i]];
-                answer (*const of[])(void *, uint32_t, uint32_t) = {x->mark, x->drop, x->touch, x->look, x->release};
+                answer (*const of[])(void *, uint32_t, uint32_t) = {x->mark, x->drop, x->touch, x->look, x->release, x->give_back};
                 b->head = h;
-                r[i] = c < 5 ? of[c](b, space, page) : c == 5 ? x->translate(b, space, address) : x->write(b, space, from, bytes, many);
+                r[i] = c < 6 ? of[c](b, space, page) : c == 6 ? x->translate(b, space, address) : x->write(b, space, from, bytes, many);
                 if ((r[0].kind <= 3 || r[i].kind <= 3) && r[0].kind != r[i].kind)
                     fail(calls[c], x, space, page, r[0], r[i]);
             }
@@ -320,31 +325,53 @@ typedef struct small {
 static void some_calls(const engine *pager, corwystal_board *b)
 {
     for (int k = 0; k < 6; k++) {
-        uint32_t space = draw(FEW_SPACES), page = draw(FEW_PAGES), which = draw(12);
+        uint32_t space = draw(FEW_SPACES), page = draw(FEW_PAGES), which = draw(14);
         answer a = which < 3    ? pager->mark(b, space, page)
                    : which == 3 ? pager->drop(b, space, page)
                    : which < 6  ? pager->release(b, space, page)
-                                : pager->touch(b, space, page);
+                   : which < 12 ? pager->touch(b, space, page)
+                                : pager->give_back(b, space, page);
         if (a.kind <= 3 || a.kind == CORWYSTAL_NOT_OURS)
             fail("a call", pager, space, page, (answer){CORWYSTAL_DONE, 0, 0}, a);
     }
 }
 
-static void fail_memory(const char *what, const engine *who, uint32_t space, size_t address, size_t n)
+/* A write, or a hand-back. */
+typedef struct asked {
+    const char *call;
+    int writes;
+    uint32_t space, page;
+    size_t address, n;
+} asked;
+
+static answer ask(const engine *x, corwystal_board *b, const asked *c)
 {
-    fprintf(stderr, "write of %zu bytes at space %u, address %zu: %s of %s\n", n, space, address, what, who->name);
+    return c->writes ? x->write(b, c->space, c->address, bytes, c->n) : x->give_back(b, c->space, c->page);
+}
+
+static void fail_memory(const char *what, const engine *who, const asked *c)
+{
+    fprintf(stderr, "%s at space %u, page %u, address %zu, of %zu bytes: %s of %s\n", c->call, c->space, c->page, c->address, c->n, what, who->name);
     exit(1);
 }
 
+/* Where in its region's list a resident page stands, as a bit: last, just before that, or further up. */
+static uint32_t position(const small *is, const asked *c)
+{
+    uint32_t p = c->space * FEW_PAGES + c->page, newer = is->count[is->cache[p]] - 1 - is->helper[p];
+    return 1u << (newer < 2 ? newer : 2);
+}
+
 /*
- * Writes by the pager and by the checks in C, each from the same memory. As calls left it, all answers are the same, and so is
- * every word of head, index and tables and every byte; damaged, refusals 1 to 3 are. Either way a refusal leaves all as it was.
+ * Writes or hand-backs by the pager and by the checks in C, each from the same memory. As calls left it, all answers are the
+ * same, and so is every word of head, index and tables and every byte; damaged, refusals 1 to 3 are. Either way a refusal leaves
+ * all as it was.
  */
-static void writes(int damaged)
+static void from_the_same(int writes, int damaged)
 {
     static small is, was, left[3];
     corwystal_board b;
-    uint32_t seen = 0;
+    uint32_t seen = 0, positions = 0;
     for (int k = 0; k < 60000; k++) {
         b = (corwystal_board)CORWYSTAL_BOARD_INIT(is.index, is.count, is.table, is.helper, is.stack, is.cache, is.link, is.ram);
         b.head = is.head;
@@ -367,33 +394,37 @@ static void writes(int damaged)
         b.cache_len = nearly(FEW);
         b.link_len = nearly(FEW_FRAMES);
         b.ram_len = nearly(sizeof is.ram);
-        uint32_t space = odd(draw(FEW_SPACES));
-        size_t n = draw(8) == 0 ? 0 : draw(2) == 0 ? draw(PAGE) : draw(MOST + 1), address = draw(FEW_PAGES * PAGE);
-        address = draw(16) == 0 ? SIZE_MAX - draw(512) : draw(8) == 0 ? near_end(&b.head, n) : address;
-        for (size_t i = 0; i < n; i++)
+        asked c = {.call = writes ? "write" : "hand-back", .writes = writes};
+        c.space = odd(draw(FEW_SPACES));
+        c.page = odd(draw(FEW_PAGES));
+        c.n = draw(8) == 0 ? 0 : draw(2) == 0 ? draw(PAGE) : draw(MOST + 1);
+        c.address = draw(16) == 0 ? SIZE_MAX - draw(512) : draw(8) == 0 ? near_end(&b.head, c.n) : draw(FEW_PAGES * PAGE);
+        for (size_t i = 0; i < c.n; i++)
             bytes[i] = (uint8_t)draw(256);
         answer r[3];
         for (int i = 0; i < 3; i++) {
             const engine *x = &all[with_checks[i]];
             is = was;
             b.head = was.head;
-            r[i] = x->write(&b, space, address, bytes, n);
+            r[i] = ask(x, &b, &c);
             is.head = b.head;
             left[i] = is;
             int exact = !damaged || r[0].kind <= 3 || r[i].kind <= 3;
             if (exact && (r[0].kind != r[i].kind || r[0].words != r[i].words || r[0].value != r[i].value))
-                fail("write", x, space, (uint32_t)(address / PAGE), r[0], r[i]);
+                fail(c.call, x, c.space, writes ? (uint32_t)(c.address / PAGE) : c.page, r[0], r[i]);
             if (corwystal_refused(r[i]) && memcmp(&was, &is, sizeof is) != 0)
-                fail_memory("a refusal that changed memory", x, space, address, n);
+                fail_memory("a refusal that changed memory", x, &c);
             if (!damaged && memcmp(&left[0], &is, sizeof is) != 0)
-                fail_memory("other memory than the pager's is left by that", x, space, address, n);
+                fail_memory("other memory than the pager's is left by that", x, &c);
         }
         seen |= 1u << r[0].kind;
+        if (!writes && !damaged && r[0].kind == CORWYSTAL_DONE)
+            positions |= position(&was, &c);
     }
     uint32_t wanted = 1u << CORWYSTAL_NO_SIZE | 1u << CORWYSTAL_NO_SPACE | 1u << CORWYSTAL_NO_PAGE | 1u << CORWYSTAL_NO_REGION |
-                      1u << CORWYSTAL_NO_FRAME | 1u << CORWYSTAL_DONE;
-    if (!damaged && seen != wanted) {
-        fprintf(stderr, "writes: kinds of answers %x instead of %x: draw others\n", seen, wanted);
+                      1u << (writes ? CORWYSTAL_NO_FRAME : CORWYSTAL_NOT_RESIDENT) | 1u << CORWYSTAL_DONE;
+    if (!damaged && (seen != wanted || (!writes && positions != 7))) {
+        fprintf(stderr, "%s: kinds of answers %x instead of %x, or pages at few positions: draw others\n", writes ? "writes" : "hand-backs", seen, wanted);
         exit(1);
     }
 }
@@ -431,8 +462,9 @@ int main(void)
         }
     }
     refusals();
-    writes(0);
-    writes(1);
+    for (int damaged = 0; damaged < 2; damaged++)
+        for (int writes = 0; writes < 2; writes++)
+            from_the_same(writes, damaged);
     printf("check: %zu calls, the same answers\n", calls);
     engines_free(all);
     return 0;

@@ -1,5 +1,5 @@
 /*
- * What the checks cost any program: nine calls of the pager written by hand in C with all that document 01 demands of
+ * What the checks cost any program: ten calls of the pager written by hand in C with all that document 01 demands of
  * every call (refusals 1 to 3 on any head and any lengths, nothing undefined on any tables), through the same long
  * entrance and over the same head and buffers. Instructions are compared with it, and the times of calls on a resident page.
  */
@@ -242,6 +242,48 @@ answer checked_release(corwystal_head *head, uint32_t space, uint32_t page, cons
     head->first = newest;
     head->many += (uint32_t)n;
     return SAY(CORWYSTAL_PAGES, 0, n);
+}
+
+/*
+ * The frame goes to the front of the pool; unless the page is the newest itself, the newest takes its position in the list, and
+ * the newest's frame in the links, which lead from each page's frame to that of the page before it.
+ */
+answer checked_give_back(corwystal_head *head, uint32_t space, uint32_t page, const uint64_t *index, size_t index_len,
+                         uint32_t *count, size_t count_len, const uint32_t *table, size_t table_len, uint32_t *helper,
+                         size_t helper_len, uint32_t *stack, size_t stack_len, const uint32_t *cache, size_t cache_len,
+                         uint32_t *link, size_t link_len)
+{
+    size_t tables = lesser(lesser(count_len, table_len), lesser(helper_len, lesser(stack_len, cache_len)));
+    if (!LIKELY(page < head->pages) || !passes(head, space, index_len, tables, link_len))
+        return refusal(head, space, index_len, tables, link_len);
+    size_t t = (size_t)head->spaces * head->pages, lo = (size_t)space * head->pages, p = lo + page;
+    if (!LIKELY(resident(t, p, count, helper, stack, cache))) {
+        found f = find(index, t, p);
+        return SAY(f.start < lo || f.start > p ? CORWYSTAL_NO_REGION : CORWYSTAL_NOT_RESIDENT, 0, 0);
+    }
+    uint32_t frame = table[p], frames = head->frames;
+    size_t a = cache[p], i = helper[p], n = count[a] - 1;
+    if (frame >= frames || head->many >= frames)
+        return SAY(CORWYSTAL_NOT_OURS, 0, 0);
+    if (i < n) {
+        if (a + n >= t)
+            return SAY(CORWYSTAL_NOT_OURS, 0, 0);
+        size_t newest = stack[a + n], after = stack[a + i + 1];
+        if (newest >= t || after >= t)
+            return SAY(CORWYSTAL_NOT_OURS, 0, 0);
+        uint32_t last = table[newest], next = table[after], before = link[frame];
+        if (last >= frames || next >= frames)
+            return SAY(CORWYSTAL_NOT_OURS, 0, 0);
+        helper[newest] = (uint32_t)i;
+        stack[a + i] = (uint32_t)newest;
+        link[next] = last;
+        link[last] = before; /* in this order: the page after may be the newest */
+    }
+    count[a] = (uint32_t)n;
+    link[frame] = head->first;
+    head->first = frame;
+    head->many++;
+    return SAY(CORWYSTAL_DONE, 0, 0);
 }
 
 answer checked_translate(const corwystal_head *head, uint32_t space, size_t address, const uint64_t *index,

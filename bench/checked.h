@@ -1,5 +1,5 @@
 /*
- * Nine of the pager's calls, and how full a space is, by hand in C with the pager's checks: the arguments are those of
+ * Ten of the pager's calls, and how full a space is, by hand in C with the pager's checks: the arguments are those of
  * corwystal.h. The faces hand over the pager's own record (faces.c).
  */
 #ifndef CHECKED_H
@@ -27,6 +27,11 @@ answer checked_look(const corwystal_head *head, uint32_t space, uint32_t page, c
 answer checked_release(corwystal_head *head, uint32_t space, uint32_t page, const uint64_t *index, size_t index_len,
                        uint32_t *count, size_t count_len, const uint32_t *table, size_t table_len,
                        const uint32_t *stack, size_t stack_len, uint32_t *link, size_t link_len);
+
+answer checked_give_back(corwystal_head *head, uint32_t space, uint32_t page, const uint64_t *index, size_t index_len,
+                         uint32_t *count, size_t count_len, const uint32_t *table, size_t table_len, uint32_t *helper,
+                         size_t helper_len, uint32_t *stack, size_t stack_len, const uint32_t *cache, size_t cache_len,
+                         uint32_t *link, size_t link_len);
 
 answer checked_translate(const corwystal_head *head, uint32_t space, size_t address, const uint64_t *index,
                          size_t index_len, const uint32_t *count, size_t count_len, const uint32_t *table,
@@ -62,6 +67,7 @@ answer face_drop(corwystal_board *b, uint32_t space, uint32_t page);
 answer face_touch(corwystal_board *b, uint32_t space, uint32_t page);
 answer face_look(corwystal_board *b, uint32_t space, uint32_t page);
 answer face_release(corwystal_board *b, uint32_t space, uint32_t page);
+answer face_give_back(corwystal_board *b, uint32_t space, uint32_t page);
 answer face_translate(corwystal_board *b, uint32_t space, size_t address);
 answer face_write(corwystal_board *b, uint32_t space, size_t address, const uint8_t *bytes, size_t n);
 answer face_write_map(const corwystal_board *b, uint8_t *file, size_t n);

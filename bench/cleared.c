@@ -112,6 +112,16 @@ static answer absence(const cleared *c, uint32_t lo, uint32_t p)
     return SAY(region(c, lo, p).start == NO_START ? CORWYSTAL_NO_REGION : CORWYSTAL_NOT_RESIDENT, 0, 0);
 }
 
+answer cleared_give_back(cleared *c, uint32_t space, uint32_t page)
+{
+    uint32_t lo = space * c->pages, p = lo + page;
+    if (c->table[p] == 0)
+        return absence(c, lo, p);
+    c->pool[c->free++] = c->table[p] - 1;
+    c->table[p] = 0;
+    return SAY(CORWYSTAL_DONE, 0, 0);
+}
+
 answer cleared_translate(const cleared *c, uint32_t space, size_t address)
 {
     uint32_t lo = space * c->pages, p = lo + (uint32_t)(address >> c->shift);

@@ -122,6 +122,39 @@ static void new_pages(const engine *e, size_t page)
     dump(e, "touch new", page);
 }
 
+/* A page that is handed back, by its position in a list of so many. */
+enum { LISTED = 64 };
+
+typedef struct handed {
+    const char *what;
+    uint32_t at;
+} handed;
+
+static const handed hand_backs[] = {
+    {"give back middle", LISTED / 2}, {"give back neighbour", LISTED - 2}, {"give back newest", LISTED - 1},
+};
+
+/* (b) One page handed back and, while nothing is counted, touched again: the list is then as long as before, and the page its newest. */
+static void gives_back(const engine *e, const handed *h)
+{
+    answer a;
+    uint32_t list[LISTED]; /* the region's pages, the newest last */
+    fresh_few(e, CORWYSTAL_LEAST_PAGE);
+    for (uint32_t p = 0; p < LISTED; p++) {
+        expect(e->touch(e->state, 0, p), CORWYSTAL_NEW, "touch");
+        list[p] = p;
+    }
+    for (int r = 0; r < 256; r++) {
+        uint32_t page = list[h->at];
+        COUNTED(e->give_back(e->state, 0, page));
+        expect(a, CORWYSTAL_DONE, "give back");
+        expect(e->touch(e->state, 0, page), CORWYSTAL_NEW, "touch");
+        list[h->at] = list[LISTED - 1];
+        list[LISTED - 1] = page;
+    }
+    dump(e, h->what, 0);
+}
+
 /*
  * (b) Marks and drops that change one, two or three index words. Place 0 is a start and its region empty; beside it there is
  * no start but the one that is marked or dropped, 1, 64 or 4,096 places and multiples of that further. So a mark's find reads
@@ -244,6 +277,8 @@ int main(void)
         touches(&e[i]);
         for (size_t k = 0; k < sizeof new_sizes / sizeof *new_sizes; k++)
             new_pages(&e[i], new_sizes[k]);
+        for (size_t k = 0; k < sizeof hand_backs / sizeof *hand_backs; k++)
+            gives_back(&e[i], &hand_backs[k]);
         marks_and_drops(&e[i]);
         translates(&e[i]);
         for (size_t k = 0; k < sizeof new_spans / sizeof *new_spans; k++)

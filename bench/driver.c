@@ -20,6 +20,7 @@
     TWIN(unit##_touch);                                                                                                \
     TWIN(unit##_look);                                                                                                 \
     TWIN(unit##_release);                                                                                              \
+    TWIN(unit##_give_back);                                                                                            \
     TWIN(unit##_translate);                                                                                            \
     TWIN(unit##_read);                                                                                                 \
     TWIN(unit##_write)
@@ -31,18 +32,19 @@ TWIN(face_drop);
 TWIN(face_touch);
 TWIN(face_look);
 TWIN(face_release);
+TWIN(face_give_back);
 TWIN(face_translate);
 TWIN(face_write);
 
 /* An engine with all its calls, in the order of the record. */
 #define WHOLE(unit)                                                                                                    \
     FACE(unit##_start), FACE(unit##_mark), FACE(unit##_drop), FACE(unit##_touch), FACE(unit##_look),                   \
-        FACE(unit##_release), FACE(unit##_translate), FACE(unit##_read), FACE(unit##_write)
+        FACE(unit##_release), FACE(unit##_give_back), FACE(unit##_translate), FACE(unit##_read), FACE(unit##_write)
 
 /* What the calls with the checks haven't of their own is the pager's. */
 #define CHECKS(unit)                                                                                                   \
     FACE(corwystal_board_start), FACE(unit##_mark), FACE(unit##_drop), FACE(unit##_touch), FACE(unit##_look),          \
-        FACE(unit##_release), FACE(unit##_translate), FACE(corwystal_board_read), FACE(unit##_write)
+        FACE(unit##_release), FACE(unit##_give_back), FACE(unit##_translate), FACE(corwystal_board_read), FACE(unit##_write)
 
 /* ---- buffers */
 

@@ -18,6 +18,7 @@ typedef struct engine {
     answer (*touch)(void *, uint32_t space, uint32_t page);
     answer (*look)(void *, uint32_t space, uint32_t page);
     answer (*release)(void *, uint32_t space, uint32_t page);
+    answer (*give_back)(void *, uint32_t space, uint32_t page);
     answer (*translate)(void *, uint32_t space, size_t address);
     answer (*read)(void *, uint32_t space, size_t address, uint8_t *buffer, size_t n);
     answer (*write)(void *, uint32_t space, size_t address, const uint8_t *bytes, size_t n);

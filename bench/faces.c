@@ -30,6 +30,13 @@ answer face_release(corwystal_board *b, uint32_t space, uint32_t page)
                            b->table_len, b->stack, b->stack_len, b->link, b->link_len);
 }
 
+answer face_give_back(corwystal_board *b, uint32_t space, uint32_t page)
+{
+    return checked_give_back(&b->head, space, page, b->index, b->index_len, b->count, b->count_len, b->table,
+                             b->table_len, b->helper, b->helper_len, b->stack, b->stack_len, b->cache, b->cache_len,
+                             b->link, b->link_len);
+}
+
 answer face_translate(corwystal_board *b, uint32_t space, size_t address)
 {
     return checked_translate(&b->head, space, address, b->index, b->index_len, b->count, b->count_len, b->table,

@@ -138,6 +138,28 @@ static answer absence(const method *m, uint32_t lo, uint32_t p)
     return SAY(region(m, lo, p).start == NO_START ? CORWYSTAL_NO_REGION : CORWYSTAL_NOT_RESIDENT, 0, 0);
 }
 
+/* The newest page takes the position of the one that is handed back, and its frame the place in the links. */
+answer method_give_back(method *m, uint32_t space, uint32_t page)
+{
+    uint32_t lo = space * m->pages, p = lo + page;
+    if (!resident(m, p))
+        return absence(m, lo, p);
+    uint32_t frame = m->table[p], a = m->cache[p], i = m->helper[p], n = m->count[a] - 1;
+    if (i < n) {
+        uint32_t newest = m->stack[a + n], last = m->table[newest];
+        uint32_t next = m->table[m->stack[a + i + 1]], before = m->link[frame];
+        m->helper[newest] = i;
+        m->stack[a + i] = newest;
+        m->link[next] = last;
+        m->link[last] = before; /* in this order: the page after may be the newest */
+    }
+    m->count[a] = n;
+    m->link[frame] = m->first;
+    m->first = frame;
+    m->many++;
+    return SAY(CORWYSTAL_DONE, 0, 0);
+}
+
 answer method_translate(const method *m, uint32_t space, size_t address)
 {
     uint32_t lo = space * m->pages, p = lo + (uint32_t)(address >> m->shift);

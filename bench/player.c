@@ -111,6 +111,9 @@ static char *say_found(char *out, answer a)
     return a.kind < CORWYSTAL_DONE ? say_number(SAY(out, " "), a.words) : out;
 }
 
+/* The same for a hand-back, which is answered by another word than document 01's calls. */
+static char *say_given(char *out, answer a) { return a.kind == CORWYSTAL_DONE ? SAY(out, "done") : say_answer(out, a); }
+
 /* ---- the fields of a line: where they end, or NULL */
 
 /* A number after a blank, of at most 9 digits. */
@@ -206,7 +209,7 @@ static char *list(char *out, uint32_t space)
 
 #define LINE(name) static char *name##_line(char *out, const uint8_t *at, const uint8_t **end)
 
-#define PAGE_LINE(name, say)                                                                                           \
+#define PAGE_LINE(name, call, say)                                                                                     \
     LINE(name)                                                                                                         \
     {                                                                                                                  \
         uint32_t i, b, k;                                                                                              \
@@ -214,13 +217,14 @@ static char *list(char *out, uint32_t space)
             return out;                                                                                                \
         if ((k = refused_page(i, b)) != 0)                                                                             \
             return say(out, (answer){k, 0, 0});                                                                        \
-        return say(out, method_##name(&machine, i, b));                                                                \
+        return say(out, call(&machine, i, b));                                                                         \
     }
-PAGE_LINE(mark, say_answer)
-PAGE_LINE(drop, say_answer)
-PAGE_LINE(touch, say_found)
-PAGE_LINE(look, say_found)
-PAGE_LINE(release, say_answer)
+PAGE_LINE(mark, method_mark, say_answer)
+PAGE_LINE(drop, method_drop, say_answer)
+PAGE_LINE(touch, method_touch, say_found)
+PAGE_LINE(look, method_look, say_found)
+PAGE_LINE(release, method_release, say_answer)
+PAGE_LINE(give, method_give_back, say_given)
 
 LINE(start)
 {
@@ -310,6 +314,9 @@ static char *call_line(char *out, const uint8_t *at, const uint8_t **end)
         return out;
     case 'f':
         IF_NAMED(free);
+        return out;
+    case 'g':
+        IF_NAMED(give);
         return out;
     case 's':
         IF_NAMED(start);

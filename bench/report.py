@@ -122,6 +122,8 @@ def table_b():
     rows = [counted_row("touch, resident", "touch resident", 0, "touch"),
             counted_row("look, resident", "look resident", 0, "look"),
             counted_row("translate, resident", "translate", 0, "translate")]
+    rows += [counted_row(f"give back, {words}", f"give back {where}", 0, "give_back") for where, words in zip(aims.POSITIONS, (
+        "in the middle of its list", "just before the newest", "the newest"))]
     for call in ("touch", "look"):
         for words in (1, 3, 5):
             rows.append(uncleared_row(f"{call}, absent, {words} index word{'s' * (words > 1)}", f"{call} absent", words, call))

@@ -19,6 +19,8 @@ HELD = {
     ("look at an absent page", "checked"): 114,         # 113.5, aim 125
     ("look at an absent page", "clang_checked"): 115,   # 114.5, aim 135
     ("all actions of the workload", "method"): 167,     # 165.8 of the first 100,000, aim 200
+    ("give back of a page", "checked"): 103,            # 102.4 of the newest, 94.7 elsewhere, aim 115
+    ("give back of a page", "clang_checked"): 110,      # 109.3 and 102.9, aim 125
     ("mark", "checked"): 117,                           # 116.2, aim 115; 2 of its 129 instructions too many
     ("write of a new page", "clang_checked"): 112,      # 111.9, aim 110; a find's answer goes through memory
     # a find for each page that is mapped, where C with the checks makes one for the span and then tests a bit a page

@@ -15,7 +15,8 @@ hold() { # compiler, instructions, at most so many hundredths
     fi
 }
 
-hold gcc "$gcc" 222
-hold clang "$clang" 236
+# 222 and 236 before W-205: a line that is no page call is compared with one name more, `give`; C by hand switches on the first letter.
+hold gcc "$gcc" 225
+hold clang "$clang" 238
 [ "$failed" = 0 ] || exit 1
 echo "costs: a session's line takes $ours instructions, C by gcc $gcc, by clang $clang"

@@ -60,10 +60,10 @@ def call(draw, machine):
     space, page = draw.below(spaces), draw.below(pages)
     starts = sorted(machine.state.spaces[space])
     start = draw.among(starts) if starts else page
-    name = draw.among(["mark", "drop", "release", "look"] + 6 * ["touch"])
+    name = draw.among(["mark", "drop", "release", "look"] + 3 * ["give"] + 7 * ["touch"])
     if name in ("drop", "release"):
         page = start
-    elif name in ("touch", "look"):
+    elif name in ("touch", "look", "give"):
         page = start + draw.below(6)
     if draw.below(40) == 0:
         space = spaces + draw.below(2)

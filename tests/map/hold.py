@@ -27,7 +27,8 @@ import mapfile  # noqa: E402
 SHARE = 20
 HISTORIES = 150
 # what calls of the histories must be answered with
-CALLED = ("read ok", "read no 12", "read no 1", "touch frame new", "touch frame old", "touch no 8", "touch no 4", "mark no 7", "drop ok", "release pages")
+CALLED = ("read ok", "read no 12", "read no 1", "touch frame new", "touch frame old", "touch no 8", "touch no 4", "mark no 7", "drop ok", "release pages",
+          "give ok", "give no 10", "give no 4")
 SHOWN = 160  # characters of an answer that is told
 
 

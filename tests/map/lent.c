@@ -7,8 +7,8 @@
  * `lent bytes PLACES FRAMES` reads one file's bytes instead, into tables for so many places and frames.
  * `lent full` asks how full spaces are: a line has a space and the front of a file in hex, its answer is `pages` and the number, or `no` and the
  * refusal; the bytes must stay.
- * `lent calls PLACES FRAMES` plays lines on such tables, which stay from line to line: `read` and a file in hex, mark, drop, touch, look and
- * release with space and page, `map`. A new page must be zeros, and no other byte of the RAM may change.
+ * `lent calls PLACES FRAMES` plays lines on such tables, which stay from line to line: `read` and a file in hex, mark, drop, touch, look, release
+ * and give with space and page, `map`. A new page must be zeros, and no other byte of the RAM may change.
  *
  * The calls are those of corwystal.h; with BY_HAND they are those of bench/checked.h.
  */
@@ -26,6 +26,7 @@
 #define unmark checked_drop
 #define touch checked_touch
 #define release checked_release
+#define give_back checked_give_back
 #else
 #include "../../bindings/c/corwystal.h"
 #define read_map corwystal_read_map
@@ -36,6 +37,7 @@
 #define unmark corwystal_drop
 #define touch corwystal_touch
 #define release corwystal_release
+#define give_back corwystal_give_back
 #endif
 
 enum { INDEX, COUNT, TABLE, HELPER, STACK, CACHE, LINK, BUFFERS };
@@ -344,6 +346,9 @@ static void play(memory *m, char *line, size_t length)
         a = look_at(m, space, page);
     else if (strcmp(name, "release") == 0)
         a = release(&m->head, space, page, LENT(m, INDEX), LENT(m, COUNT), LENT(m, TABLE), LENT(m, STACK), LENT(m, LINK));
+    else if (strcmp(name, "give") == 0)
+        a = give_back(&m->head, space, page, LENT(m, INDEX), LENT(m, COUNT), LENT(m, TABLE), LENT(m, HELPER), LENT(m, STACK), LENT(m, CACHE),
+                      LENT(m, LINK));
     tell(a);
     check_ram(m, a);
 }

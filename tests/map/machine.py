@@ -1,6 +1,7 @@
-"""The plain machine of document 01 as far as a map shows it: starts, pairs and pool, no RAM, no table, no index. Written from the document alone.
+"""The plain machine of document 01 as far as a map shows it: starts, pairs and pool, no RAM, no table, no index. Written from the document alone,
+and W-205's hand-back from document 02.
 
-Each call answers as a session's line does, but for the index words.
+Each call answers as a session's line does, but for the index words, and a hand-back as a mark does: by their numbers the two are one answer.
 """
 from mapfile import State
 
@@ -75,3 +76,16 @@ class Machine:
         pairs, regions[page] = regions[page], []
         self.state.pool[:0] = [frame for _, frame in reversed(pairs)]
         return f"pages {len(pairs)}"
+
+    def give(self, space, page):
+        """W-205: the page "leaves its region's list, the region's newest page takes its position there, and the frame goes to the front of the pool"."""
+        found = self.look(space, page)
+        if not found.startswith("resident"):
+            return found.replace("absent", "no 10")
+        pairs = self.state.spaces[space][self.region(space, page)]
+        position = [one for one, _ in pairs].index(page)
+        frame, newest = pairs[position][1], pairs.pop()
+        if position < len(pairs):
+            pairs[position] = newest
+        self.state.pool.insert(0, frame)
+        return "ok"

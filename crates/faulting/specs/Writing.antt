@@ -201,6 +201,7 @@ module _ (i x : ℕ) (vs : List ℕ) (k : Memory) (passes : asked (sizesOf (k .h
           stays = λ e. absurd (let z : _≡_ {A = ℕ} 0 1 = cc in omega arith);
           bounds = bounds;
           tells = λ f w is. tt;
+          gives = λ is. tt;
           honest = λ m h.
               let s = none-refused (spanOutside m i x (length vs)) (spanShort m i x (length vs)) (settled m h) in
               let accepts : writeAt m i x vs ≡ writeIf m i x vs false false = rw (s .0, s .1) in

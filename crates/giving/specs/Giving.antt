@@ -14,8 +14,9 @@ use Rattle.sequence.specs.Lists.{Changed}
 use Rattle.sequence.specs.Changes.{changed-set, changed-then, changed-more}
 use Rattle.machine.specs.declared.PageCall.the-variants.{GiveBack}
 use Rattle.machine.specs.Machine.{Sizes, places, placeOf, State, noPair, region, Page, outside, unmapped, mapped, pageOf, everyTable, giveBack, asked}
-use Rattle.machine.specs.Machine.{Answer, handed, refused, tell, indexIn, giveBackPage, accepted, step, answer, after}
-use Rattle.machine.specs.Laws.Sizes.{both, place-below}
+use Rattle.machine.specs.Machine.{pageGivenBack, Answer, handed, refused, tell, indexIn, giveBackPage, accepted, step, answer, after}
+use Rattle.machine.specs.Claims.{isRefused}
+use Rattle.machine.specs.Laws.Sizes.{both}
 use Rattle.machine.specs.Laws.Lookup.{Mapped, is-mapped, mapped-is}
 use Rattle.machine.specs.Laws.Holders.{frame-below}
 use Rattle.machine.specs.Laws.Handed.{stands, region-long, at-most}
@@ -30,7 +31,7 @@ use Rattle.promise.specs.Holds.{Holds}
 use Rattle.promise.specs.Did.{Among, Words, Did}
 use Rattle.promise.specs.Refuses.{words-then}
 use Rattle.laws.specs.Models.{tableLengths}
-use Rattle.laws.specs.Refusals.{Long, words-none, Admitted, admitted, kept-did, checked-did, passed-step}
+use Rattle.laws.specs.Refusals.{Long, words-none, bounds-none, Admitted, admitted, checked-did, passed-step}
 use Rattle.laws.specs.Checks.{page-check}
 use Rattle.laws.specs.Room.{owned-below}
 use Rattle.pool.specs.Pool.{many-fit}
@@ -173,8 +174,17 @@ module _ (k : Memory) (i b : ℕ) (e : asked (sizesOf (k .head)) (giveBack i b (
   module _ (n : ℕ) (mine : Among (4 ∷ 9 ∷ 10 ∷ []) n) where
     refuses : ((m : State) → Holds m k → giveBackPage m p (pageOf m p) ≡ tell m (refused n)) → Did (giveBack i b) k (refused n) k
     refuses same =
-        kept-did (giveBack i b) k (refused n) e (mine, refl) (tt, tt)
-        (λ m H. let o = out-is m H ∙ same m H in (sym (ap (λ r. r .answer) o), ap (λ r. r .after) o))
+        record {
+          asks = rw e (mine, refl);
+          stays = λ _. refl;
+          bounds = bounds-none (pageGivenBack i b) 0 k (λ _. tt);
+          tells = λ f w is. tt;
+          gives = λ is. absurd (true≢false (ap isRefused is));
+          honest = λ m H.
+              let o = out-is m H ∙ same m H in
+              record { answer-is = sym (ap (λ r. r .answer) o); holds = rw (ap (λ r. r .after) o) H };
+          begins = tt;
+        }
 
   -- ---- done
 
@@ -227,6 +237,7 @@ module _ (k : Memory) (i b : ℕ) (e : asked (sizesOf (k .head)) (giveBack i b (
                     };
               };
           tells = λ f w is. tt;
+          gives = λ is. omega arith;
           honest = λ m H.
               let (s, there) = machine-mapped m H in
               let o = out-is m H ∙ ap (giveBackPage m p) (mapped-is m p s f there) in

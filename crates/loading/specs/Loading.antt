@@ -69,6 +69,7 @@ module _ (file : List ℕ) (k : Memory) where
           stays = λ s. absurd (false≢true s);
           bounds = bounds;
           tells = λ f w told. tt;
+          gives = λ told. tt;
           honest = λ m M.
               let o = passed-step m (readMap file (lengths k)) (subst (λ (z : Sizes). asked z (readMap file (lengths k)) ≡ 0) (M .sizes-are) pass)
               ∙ begins-so m (stateIn [] (wordsIn file)) (readMap file (lengths k)) is in

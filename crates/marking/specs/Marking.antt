@@ -33,7 +33,7 @@ use Rattle.promise.specs.Holds.{Holds}
 use Rattle.promise.specs.Did.{Later, Marks, Bounds, Did}
 use Rattle.laws.specs.Models.{Refuses, markLengths}
 use Rattle.marking.specs.Models.{cutCount, countIn, withIndex, Puts, PutsUnless, MarkIf, DropIf, MarkDone, DropDone}
-use Rattle.laws.specs.Refusals.{words-none, MayKeep, tells-none, begins-none, passed-step, kept-did, checked-did, Admitted, admitted}
+use Rattle.laws.specs.Refusals.{words-none, MayKeep, tells-none, gives-none, begins-none, passed-step, kept-did, checked-did, Admitted, admitted}
 use Rattle.laws.specs.Finds.{index-passes, sought-is, start-is}
 use Rattle.laws.specs.Checks.{page-check}
 
@@ -225,6 +225,7 @@ module _ (i b : ℕ) (k : Memory) where
             stays = λ e. absurd (false≢true e);
             bounds = bounds (withIndex k (d .words)) (put-marks k v here change-is.Done (d .words) (d .put));
             tells = λ f w is. tells-none (facts (c (lengths k)) .change) (keeps .0) f k _;
+            gives = λ is. gives-none (facts (c (lengths k)) .change) (keeps .0) k _;
             honest = λ m h.
                 let (o, spares) = cut-clear m (c (lengths k)) v (placeOf (m .sizes) i b) (cut m h) in
                 let put-is = as-machine m h (λ z. Put v (places z) (placeOf z i b) (k .index) change-is.Done (d .words)) (d .put) in

@@ -115,6 +115,7 @@ touch-did i b k a k′ d =
       stays = plan-still k p x;
       bounds = plan-bounds k p i b refl long x g (new-hidden k i b (r .sight) (r .seen));
       tells = plan-tells k p i b refl long x g;
+      gives = λ is. tt;
       honest = λ m h. touch-honest i b k e (r .sight) (r .seen) m h;
       begins = tt;
     }))

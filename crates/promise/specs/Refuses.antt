@@ -244,6 +244,9 @@ module _ (i b : ℕ) (k : Memory) (a : Answer) (k′ : Memory) where
         changed-more (omega (arith, few)) (w .link .few),
       )
 
+  pub give-told : Did (giveBack i b) k handed k′ → framesLeft (k′ .head) ≡ framesLeft (k .head) + 1
+  give-told d = d .gives refl
+
   pub give-one : Did (giveBack i b) k a k′ → (n : ℕ) × (n ≤ 1) × (framesLeft (k′ .head) ≡ framesLeft (k .head) + n)
   give-one d = (d .bounds .given, d .bounds .few, d .bounds .back)
 

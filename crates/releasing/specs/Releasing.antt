@@ -294,6 +294,7 @@ module _ (k : Memory) (i b : ℕ) (e : asked (sizesOf (k .head)) (release i b (l
                   ram = refl;
                 };
             tells = λ f w is. tt;
+            gives = λ is. tt;
             honest = λ m H.
                 let (x, xs, is) = has-page m H in
                 let long = subst (λ (y : Sizes). y .frames ≤ length (k .link)) (H .sizes-are) (known .lent .link refl) in

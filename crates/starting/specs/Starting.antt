@@ -110,6 +110,7 @@ module _ (s n f shift : ℕ) (k : Memory) where
           accepted = λ _. record { sizes = refl; first = refl; many = refl; fresh = refl; index = refl; count = refl };
         };
         tells = λ f w is. tt;
+        gives = λ is. tt;
         honest = λ m h.
             let o = passed-step m (start given (lengths k)) (subst (λ z. asked z (start given (lengths k)) ≡ 0) (h .sizes-are) pass) in
             record {
