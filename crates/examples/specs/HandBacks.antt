@@ -5,7 +5,7 @@ use Prim.Native.Nat.{ℕ}
 use Prim.Native.String.{String}
 use lib.ListN.{replicate}
 use Rattle.words.specs.Words.{bytesOf}
-use Rattle.machine.specs.Machine.{sizes, unstarted, Call, start, mark, drop, touch, look, release, giveBack, free, read, write, Pair, indexIn, without, Answer}
+use Rattle.machine.specs.Machine.{sizes, unstarted, start, mark, drop, touch, look, release, giveBack, free, read, write, Pair, indexIn, without}
 use Rattle.machine.specs.Machine.{done, new, absent, pages, frames, bytes, handed, refused}
 use Rattle.machine.specs.Map.{entryWords, bodyWords, rows, bodies, fileWords}
 use Rattle.digits.specs.Text.{hexText}

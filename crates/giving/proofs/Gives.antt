@@ -6,10 +6,10 @@ use Prim.Native.Nat.{ℕ}
 use borrow.Author.Tests.{ltb-true}
 use lib.Dec.{ltb}
 use Rattle.machine.specs.declared.PageCall.the-variants.{GiveBack}
-use Rattle.machine.specs.Machine.{places, placeOf, giveBack, asked, Answer, refused}
+use Rattle.machine.specs.Machine.{places, placeOf, giveBack, refused}
 use Rattle.machine.specs.Answers.{givenBackSays}
 use Rattle.machine.specs.Laws.Sizes.{fit, place-below}
-use Rattle.memory.specs.Memory.{Memory, memory, sizesOf, lengths}
+use Rattle.memory.specs.Memory.{Memory, memory, sizesOf}
 use Rattle.memory.specs.declared.Head.{Head}
 use Rattle.memory.specs.declared.GiveBackOut.{GiveBackOut}
 use Rattle.lookup.specs.declared.Sight.{Sight}
@@ -99,11 +99,14 @@ module _ (h : Head) (i b : ℕ) (index count table helper stack cache link : Lis
           → DidGive r count helper stack link
       give-refused n r is says leaves = rw is (λ ram. rw (says _, leaves _ _ _) at (gives ram), refl)
 
-      pub give-handed : (f t p : ℕ) → s ≡ Mapped f → t ≡ places (sizesOf h) → p ≡ placeOf (sizesOf h) i b → (r : GiveBackOut) (count′ helper′ stack′ link′ : List ℕ)
+      pub give-handed : (f t p : ℕ) → s ≡ Mapped f → t ≡ places (sizesOf h) → p ≡ placeOf (sizesOf h) i b
+          → (r : GiveBackOut) (count′ helper′ stack′ link′ : List ℕ)
           → Handed h count table helper stack cache link t p r count′ helper′ stack′ link′
           → DidGive r count′ helper′ stack′ link′
-      give-handed f t p is et ep r count′ helper′ stack′ link′ handed =
-          (λ ram. go ram (leaveOk h count table helper stack cache _ _) refl (rw (et, ep) at handed), fresh (leaveOk h count table helper stack cache t p) handed)
+      give-handed f t p is et ep r count′ helper′ stack′ link′ handed = (
+        λ ram. go ram (leaveOk h count table helper stack cache _ _) refl (rw (et, ep) at handed),
+        fresh (leaveOk h count table helper stack cache t p) handed,
+      )
         where
           fresh : (x : Bool) → HandedIf x h count table helper stack cache link p r count′ helper′ stack′ link′ → r .head .fresh ≡ h .fresh
           fresh true (done, l) = ap (λ (y : Head). y .fresh) (l .head-is)

@@ -1,25 +1,24 @@
 -- A hand-back keeps the promise: six table words and the head change at most, and on honest memory the page has left its region's list.
 use mathlib.Core.Path.{_≡_, refl, sym, ap, _∙_, subst}
 use mathlib.Core.Logic.{inl, inr}
-use mathlib.Core.Bool.{Bool, true, false, _&&_, _||_, true≢false}
+use mathlib.Core.Bool.{Bool, true, false, true≢false}
 use mathlib.Core.List.{List, [], _∷_}
-use Prim.Native.Nat.{ℕ, suc, _+_, _-_, _≤_, _<_}
+use Prim.Native.Nat.{ℕ, suc, _+_, _-_, _<_}
 use native.Mathlib.Decide.{decLt}
 use native.Mathlib.Omega.{arith}
-use borrow.Author.Tests.{ltb-true, leb-true, lt-ltb, lt-leb, le-leb}
-use lib.Dec.{leb, ltb}
+use borrow.Author.Tests.{ltb-true, lt-ltb, lt-leb, le-leb}
+use lib.Dec.{ltb}
 use lib.ListN.{length, getD, set}
 use lib.Seq.{drop-set-lt}
-use Rattle.sequence.specs.Lists.{Changed}
-use Rattle.sequence.specs.Changes.{changed-set, changed-then, changed-more}
+use Rattle.sequence.specs.Changes.{changed-set, changed-more}
 use Rattle.machine.specs.declared.PageCall.the-variants.{GiveBack}
-use Rattle.machine.specs.Machine.{Sizes, places, placeOf, State, noPair, region, Page, outside, unmapped, mapped, pageOf, everyTable, giveBack, asked}
+use Rattle.machine.specs.Machine.{Sizes, places, placeOf, State, noPair, region, pageOf, everyTable, giveBack, asked}
 use Rattle.machine.specs.Machine.{pageGivenBack, Answer, handed, refused, tell, indexIn, giveBackPage, accepted, step, answer, after}
 use Rattle.machine.specs.Claims.{isRefused}
 use Rattle.machine.specs.Laws.Sizes.{both}
 use Rattle.machine.specs.Laws.Lookup.{Mapped, is-mapped, mapped-is}
 use Rattle.machine.specs.Laws.Holders.{frame-below}
-use Rattle.machine.specs.Laws.Handed.{stands, region-long, at-most}
+use Rattle.machine.specs.Laws.Handed.{stands, region-long}
 use Rattle.memory.specs.Memory.{Memory, at, sizesOf, lengths}
 use Rattle.memory.specs.declared.Head.{Head}
 use Rattle.lookup.specs.declared.Sight.{Sight}
@@ -55,7 +54,7 @@ module _ (f : ℕ) (table stack : List ℕ) (t w : ℕ) where
   says-pair p = rw (lt-ltb (at stack w) t (p .place), lt-ltb (at table (at stack w)) f (p .frame))
 
 -- the page at position i of the region at a, whose newest page stands at position n, can leave
-pub record Free (h : Head) (table stack : List ℕ) (t a i n : ℕ) : Type 0 where
+pub record Sited (h : Head) (table stack : List ℕ) (t a i n : ℕ) : Type 0 where
   pub top : a + n < t
   pub newest : Paired (h .frames) table stack t (a + n)
   pub neighbour : i < n → Paired (h .frames) table stack t (a + i + 1)
@@ -74,7 +73,7 @@ module _ (h : Head) (table stack : List ℕ) (t a i n : ℕ) where
     | no l ↦ rw (le-leb n i (omega arith))
   ]
 
-  pub leave-says : leaveOkAt h table stack t a i n ≡ true → Free h table stack t a i n
+  pub leave-says : leaveOkAt h table stack t a i n ≡ true → Sited h table stack t a i n
   unfolding leaveOkAt
   leave-says e =
       let p₃ = both _ _ e in
@@ -87,7 +86,7 @@ module _ (h : Head) (table stack : List ℕ) (t a i n : ℕ) where
         room = ltb-true _ _ (p₃ .1);
       }
 
-  pub says-leave : Free h table stack t a i n → leaveOkAt h table stack t a i n ≡ true
+  pub says-leave : Sited h table stack t a i n → leaveOkAt h table stack t a i n ≡ true
   unfolding leaveOkAt
   says-leave c =
       rw (

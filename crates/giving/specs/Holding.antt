@@ -2,9 +2,9 @@
 use mathlib.Core.Path.{_≡_, refl, sym, ap, _∙_, subst}
 use mathlib.Core.Logic.{_≢_}
 use mathlib.Core.Bool.{Bool, true, false}
-use mathlib.Core.Option.{some, Option·some-injective}
-use mathlib.Core.List.{List, [], _∷_, _++_, reverse}
-use Prim.Native.Nat.{ℕ, zero, suc, _+_, _-_, _≤_, _<_}
+use mathlib.Core.Option.{Option·some-injective}
+use mathlib.Core.List.{List, [], _∷_, reverse}
+use Prim.Native.Nat.{ℕ, suc, _+_, _-_, _≤_, _<_}
 use native.Mathlib.Decide.{ℕ-discrete}
 use native.Mathlib.Omega.{arith}
 use borrow.Author.Tests.{ltb-true}
@@ -19,7 +19,7 @@ use Rattle.machine.specs.Laws.Kept.{start-of-pair, start-below}
 use Rattle.machine.specs.Laws.Holders.{frame-below}
 use Rattle.machine.specs.Laws.Handed.{Stands, stands, region-long, at-most, region-here, region-there, length-without, without-here, without-there, sum-without}
 use Rattle.machine.specs.Laws.Handed.{sound-handed}
-use Rattle.memory.specs.Memory.{Memory, at, sizesOf, lengths}
+use Rattle.memory.specs.Memory.{Memory, at, lengths}
 use Rattle.promise.specs.Holds.{Placed, Chain, Linked, Pooled, unused, Holds}
 use Rattle.pool.specs.Chains.{chain-kept, linked-kept}
 use Rattle.pool.specs.Pool.{newestFirst, times-newest, pool-or-region, one-region}

@@ -135,8 +135,8 @@ fn hand_back(
     p: usize,
 ) -> GiveBackOut
     requires { ⌜ Seated h t p (now count) (now table) (now helper) (now stack) (now cache) (now link) ⌝ }
-    ensures { λ r. ⌜ Handed h (now (count .entry)) (now (table .entry)) (now (helper .entry)) (now (stack .entry)) (now (cache .entry)) (now (link .entry)) t p r
-        (now (count .exit)) (now (helper .exit)) (now (stack .exit)) (now (link .exit)) ⌝ }
+    ensures { λ r. ⌜ Handed h (now (count .entry)) (now (table .entry)) (now (helper .entry)) (now (stack .entry)) (now (cache .entry))
+        (now (link .entry)) t p r (now (count .exit)) (now (helper .exit)) (now (stack .exit)) (now (link .exit)) ⌝ }
 {
     let a = wide(cache[p]);
     let i = helper[p];

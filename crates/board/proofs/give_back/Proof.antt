@@ -20,7 +20,8 @@ use Rattle.board.proofs.give_back.Code as code
 pub give-back-spec : {M : Type 1} → stated.statement M
 unfolding code.routine
 give-back-spec 𝓤 H 𝓜 𝓖 𝓡 =
-    changing 𝓤 H 𝓜 𝓖 𝓡 chain (word w32 ∷ word w32 ∷ shared u64 ∷ unique u32 ∷ shared u32 ∷ unique u32 ∷ unique u32 ∷ shared u32 ∷ unique u32 ∷ []) O.the-row R.the-row
+    changing 𝓤 H 𝓜 𝓖 𝓡 chain (word w32 ∷ word w32 ∷ shared u64 ∷ unique u32 ∷ shared u32 ∷ unique u32 ∷ unique u32 ∷ shared u32 ∷ unique u32 ∷ [])
+    O.the-row R.the-row
     (λ x. x .head) (λ x. x .answer) (EL.val R.the-type R′.the-laws)
     (λ κs a x y. g.clauses 𝓤 H (𝓖 .A) (𝓜 .mem) (𝓡 .run) (κs .1) (a .0 .now, a .1) .ensures tt x (atExit g.ended (κs .1) (a .0 .now, a .1) (tt, y)))
     (λ κs a r ws. f.clauses 𝓤 H (𝓖 .A) (𝓜 .mem) (𝓡 .run) κs a .ensures tt r (atExit f.ended κs a ws))

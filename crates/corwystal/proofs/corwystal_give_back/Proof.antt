@@ -19,7 +19,8 @@ use Rattle.corwystal.proofs.corwystal_give_back.Code as code
 pub corwystal-give-back-spec : {M : Type 1} → stated.statement M
 unfolding code.routine
 corwystal-give-back-spec 𝓤 H 𝓜 𝓖 𝓡 =
-    exporting 𝓤 H 𝓜 𝓖 𝓡 (headMut ∷ word w32 ∷ word w32 ∷ shared u64 ∷ unique u32 ∷ shared u32 ∷ unique u32 ∷ unique u32 ∷ shared u32 ∷ unique u32 ∷ []) R.the-row
+    exporting 𝓤 H 𝓜 𝓖 𝓡 (headMut ∷ word w32 ∷ word w32 ∷ shared u64 ∷ unique u32 ∷ shared u32 ∷ unique u32 ∷ unique u32 ∷ shared u32 ∷ unique u32 ∷ [])
+    R.the-row
     (λ κs a. g.spec 𝓤 H (𝓖 .A) (𝓜 .mem) (𝓡 .run) κs a .ensures tt) (λ x. h.spec 𝓤 H (𝓖 .A) (𝓜 .mem) (𝓡 .run) tt (x, tt) .ensures tt)
     (λ κs a. f.spec 𝓤 H (𝓖 .A) (𝓜 .mem) (𝓡 .run) κs a .ensures tt) (EL.lawful R.the-type R′.the-laws 𝓤 H (𝓖 .A) (givenOf 𝓤 H 𝓜 𝓖) tt) refl
     code.env #f #g _ #h (code.unfolded 𝓤 H 𝓜 𝓡) code.calls-board·give-back code.calls-requests·encode-given-back

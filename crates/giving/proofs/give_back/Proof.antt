@@ -1,6 +1,5 @@
 -- The checks, what is seen of the page, and the hand-back of a resident one.
-use mathlib.Core.Path.{_≡_, refl, sym, ap, _∙_}
-use Prim.Native.Nat.{ℕ}
+use mathlib.Core.Path.{_≡_, refl, sym, _∙_}
 use borrow.Author.Needs.{needs}
 use Rattle.checks.specs.Passed.{passed, not-passed}
 use Rattle.lookup.specs.Ready.{Ready}

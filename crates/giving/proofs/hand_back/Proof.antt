@@ -1,5 +1,5 @@
 -- The three words of the page's seat, the test, and the page leaves or nothing changes.
-use mathlib.Core.Path.{_≡_, refl, sym, ap, _∙_}
+use mathlib.Core.Path.{refl}
 use native.Mathlib.Omega.{arith}
 use borrow.Author.Needs.{needs}
 use Rattle.sequence.specs.Tests.{failed, held}

@@ -1,5 +1,5 @@
 -- What was read before the stores is what the contract speaks of.
-use mathlib.Core.Path.{_≡_, refl, sym, ap, _∙_}
+use mathlib.Core.Path.{_≡_, refl, ap, _∙_}
 use native.Mathlib.Omega.{arith}
 use borrow.Author.Needs.{needs}
 use Rattle.memory.specs.Memory.{at}
@@ -70,7 +70,8 @@ returns c =
       helper-is = rw (again-is d) refl;
       stack-is = rw (p .before .before .before .wide6 .ensures, read m .before .before .before .wide .ensures) refl;
       link-is =
-          links-as _ (x .table .now) (x .stack .now) (x .a) _ _ _ _ _ (m .before .wide3 .ensures) (m .wide4 .ensures) (newest-is (read m)) _ _ _ _ _ (p .before .wide7 .ensures)
+          links-as _ (x .table .now) (x .stack .now) (x .a) _ _ _ _ _ (m .before .wide3 .ensures) (m .wide4 .ensures) (newest-is (read m)) _ _ _ _ _
+          (p .before .wide7 .ensures)
           (d .before .before .before .mend .ensures) (p .put-back .ensures .1);
     }
 

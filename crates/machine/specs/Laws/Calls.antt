@@ -29,8 +29,8 @@ use Rattle.machine.specs.Laws.Kept.{sound-begun, sound-stored}
 use Rattle.machine.specs.Laws.Steps.{sound-marked-or-not, sound-dropped-or-not, sound-touched, sound-released-or-not, sound-written, touch-sizes}
 use Rattle.machine.specs.Laws.Steps.{write-sizes, page-place}
 use Rattle.machine.specs.Laws.Handed.{sound-given}
-use Rattle.machine.specs.Laws.Changes.{KeptIfRefused, mark-kept, drop-kept, touch-kept, release-kept, give-kept, write-kept, mark-start, drop-start, touch-region}
-use Rattle.machine.specs.Laws.Changes.{release-region, give-region, write-span, may-stay}
+use Rattle.machine.specs.Laws.Changes.{KeptIfRefused, mark-kept, drop-kept, touch-kept, release-kept, give-kept, write-kept, mark-start, drop-start}
+use Rattle.machine.specs.Laws.Changes.{touch-region, release-region, give-region, write-span, may-stay}
 use Rattle.machine.specs.Laws.Shows.{shows-started, touched-shows, released-shows, given-shows, written-shows}
 use Rattle.machine.specs.Laws.Unseen.{Alike, same-answer, told-alike, mark-alike, drop-alike, touch-alike, release-alike, read-alike, write-alike}
 use Rattle.machine.specs.Laws.Unseen.{give-alike, list-alike, map-alike}

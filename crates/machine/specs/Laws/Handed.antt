@@ -2,16 +2,15 @@
 use mathlib.Core.Path.{_≡_, refl, sym, ap, _∙_, subst}
 use mathlib.Core.Logic.{_≢_}
 use mathlib.Core.Bool.{Bool, true, false, cond}
-use mathlib.Core.Option.{Option, none, some, Option·none-ne-some}
+use mathlib.Core.Option.{none, some, Option·none-ne-some}
 use mathlib.Core.List.{List, [], _∷_}
-use Prim.Native.Nat.{ℕ, zero, suc, _+_, _-_, _≤_, _<_}
+use Prim.Native.Nat.{ℕ, suc, _+_, _-_, _≤_, _<_}
 use native.Mathlib.Decide.{ℕ-discrete}
 use native.Mathlib.Omega.{arith}
 use borrow.Author.Tests.{eqb-true}
 use lib.Dec.{eqb}
 use lib.ListN.{length, getD, set, take, length-set}
 use lib.Seq.{length-take-le, take-suc, take-all, getD-take, getD-set-same, getD-set-other}
-use Rattle.sequence.specs.Lists.{Each}
 use Rattle.sequence.specs.Sums.{sum, sum-append, sum-set, sum-at, hit, hit-same}
 use Rattle.machine.specs.Machine.{State, Pair, noPair, region, startOf, frameIn, Page, outside, unmapped, mapped, pageOf, indexIn, withoutOf, without}
 use Rattle.machine.specs.Machine.{handedBack, giveBackPage}
