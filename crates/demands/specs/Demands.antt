@@ -74,7 +74,8 @@ Demand2Ram =
 
 -- ---- Demand 3. Document 01: "one claim about the whole sequence of calls, not one for each call"
 
--- "A byte stored through an address": by an accepted write, and neither "stored again" nor "its region is released" by a call after it
+-- "A byte stored through an address": by an accepted write, and neither "stored again" nor "its region is released" by a call after it, nor, W-205, its
+-- page handed back
 pub record StoredAt (m : State) (k : Memory) (es : List Event) (i x v : ℕ) : Type 0 where
   pub before : List Event
   pub later : List Event
@@ -104,8 +105,9 @@ pub record Demand3 (begun : State) (k : Memory) (es : List Event) (k′ : Memory
       → ((i : ℕ) → i < m .sizes .spaces → (length (recordsOf m i) ≤ room i) × Did (list i (room i)) k′ (a i) (k″ i))
       → (given : ℕ → List Region) × ((i : ℕ) → i < m .sizes .spaces → a i ≡ regions (given i))
       × (sumFrom (λ i. sum (λ r. r .resident) (given i)) 0 (m .sizes .spaces) ≡ residentPages m)
-  -- "A byte stored through an address is read there until it is stored again or its region is released." Document 01: "a read of that one byte is
-  -- accepted and gives it", "every accepted read over the address has it at that place", "the RAM holds it where translate points"
+  -- "A byte stored through an address is read there until it is stored again or its region is released." W-205: "a byte now also ends with an accepted
+  -- hand-back of its page". Document 01: "a read of that one byte is accepted and gives it", "every accepted read over the address has it at that place",
+  -- "the RAM holds it where translate points"
   pub one-read : (i x v : ℕ) → StoredAt begun k es i x v → (a : Answer) (k″ : Memory) → Did (read i x 1) k′ a k″ → a ≡ bytes (v ∷ [])
   pub every-read : (i x v : ℕ) → StoredAt begun k es i x v → (y n : ℕ) (vs : List ℕ) (k″ : Memory) → Did (read i y n) k′ (bytes vs) k″ → y ≤ x → x < y + n
       → getD vs (x - y) 0 ≡ v

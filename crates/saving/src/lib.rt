@@ -75,7 +75,7 @@ fn put_three(file: &mut [u8], word: usize, a: u32, b: u32, c: u32)
     put_word(file, word + 2, c);
 }
 
-// Stores the n pages of the region at a, in the order of mapping; answers the word after them.
+// Stores the n pages of the region at a, in the list's order; answers the word after them.
 fn put_entries(
     file: &mut [u8],
     table: &[u32],
