@@ -4,18 +4,17 @@ use mathlib.Core.List.{List, [], _∷_}
 use Prim.Native.Nat.{ℕ, zero, suc, _+_, _<_}
 use native.Mathlib.Nat.{add-zero}
 use native.Mathlib.Omega.{arith}
-use lib.ListN.{length, getD, set, length-set}
+use lib.ListN.{length, getD, length-set}
 use lib.Seq.{drop-set-lt, getD-set-same, getD-set-other}
 use Rattle.sequence.specs.Lists.{each-one}
-use Rattle.sequence.specs.Changes.{changed-set}
 use Rattle.machine.specs.Machine.{placeOf, pageMapped}
 use Rattle.memory.specs.Memory.{Memory, sizesOf}
 use Rattle.memory.specs.declared.Head.{Head}
-use Rattle.promise.specs.Did.{Words, framesLeft, Maps, FrameOf, Writes, NewPage}
+use Rattle.promise.specs.Did.{framesLeft, Maps, FrameOf, Writes, NewPage}
 use Rattle.promise.specs.Shown.{Shown}
 use Rattle.promise.specs.Within.{Within}
 use Rattle.pool.specs.Models.{takenFrom, taken}
-use Rattle.laws.specs.Refusals.{words-none}
+use Rattle.laws.specs.Refusals.{words-none, words-set}
 use Rattle.planning.specs.Planning.{Inside}
 use Rattle.entries.specs.Models.{mapEntry, mapPage}
 
@@ -23,10 +22,6 @@ use Rattle.entries.specs.Models.{mapEntry, mapPage}
 pub sizes-taken : (link : List ℕ) (h : Head) (n : ℕ) → sizesOf (takenFrom link h n .head) ≡ sizesOf h
 sizes-taken link h zero = refl
 sizes-taken link h (suc n) = refl
-
--- one word below n
-words-set : (n : ℕ) (ws : List ℕ) (i v : ℕ) → i < n → Words 1 n ws (set ws i v)
-words-set n ws i v h = record { few = changed-set ws i v; excess = drop-set-lt n ws i v h }
 
 -- a frame that is taken is one frame less
 one-less : (link : List ℕ) (h : Head) (n : ℕ) → h .many ≡ n → takenFrom link h n .frame < h .frames

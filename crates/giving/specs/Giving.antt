@@ -9,8 +9,7 @@ use native.Mathlib.Omega.{arith}
 use borrow.Author.Tests.{ltb-true, lt-ltb, lt-leb, le-leb}
 use lib.Dec.{ltb}
 use lib.ListN.{length, getD, set}
-use lib.Seq.{drop-set-lt}
-use Rattle.sequence.specs.Changes.{changed-set, changed-more}
+use Rattle.sequence.specs.Changes.{changed-more}
 use Rattle.machine.specs.declared.PageCall.the-variants.{GiveBack}
 use Rattle.machine.specs.Machine.{Sizes, places, placeOf, State, noPair, region, pageOf, everyTable, giveBack, asked}
 use Rattle.machine.specs.Machine.{pageGivenBack, Answer, handed, refused, tell, indexIn, giveBackPage, accepted, step, answer, after}
@@ -30,7 +29,7 @@ use Rattle.promise.specs.Holds.{Holds}
 use Rattle.promise.specs.Did.{Among, Words, Did}
 use Rattle.promise.specs.Refuses.{words-then}
 use Rattle.laws.specs.Models.{tableLengths}
-use Rattle.laws.specs.Refusals.{Long, words-none, bounds-none, Admitted, admitted, checked-did, passed-step}
+use Rattle.laws.specs.Refusals.{Long, words-none, words-set, bounds-none, Admitted, admitted, checked-did, passed-step}
 use Rattle.laws.specs.Checks.{page-check}
 use Rattle.laws.specs.Room.{owned-below}
 use Rattle.pool.specs.Pool.{many-fit}
@@ -130,16 +129,13 @@ module _ (m : State) (k : Memory) (H : Holds m k) (lent : Long everyTable (m .si
 
 -- ---- the words that change
 
-one-word : (t : ℕ) (ws : List ℕ) (w x : ℕ) → w < t → Words 1 t ws (set ws w x)
-one-word t ws w x l = record { few = changed-set ws w x; excess = drop-set-lt t ws w x l }
-
 -- three words at most, none past the frames
 module _ (link : List ℕ) (t f next last v : ℕ) (f-low : f < t) (last-low : last < t) where
   relinked-few : (b : Bool) → (b ≡ true → next < t) → Words 3 t link (set (relinked b link f next last) f v)
   relinked-few true next-low =
-      words-then (words-then (one-word t link next last (next-low refl)) (one-word t (set link next last) last (at link f) last-low)) (one-word t _ f v f-low)
+      words-then (words-then (words-set t link next last (next-low refl)) (words-set t (set link next last) last (at link f) last-low)) (words-set t _ f v f-low)
   relinked-few false next-low =
-      let w = one-word t link f v f-low in
+      let w = words-set t link f v f-low in
       record { few = changed-more (omega arith) (w .few); excess = w .excess }
 
 -- ---- the whole call
@@ -224,10 +220,10 @@ module _ (k : Memory) (i b : ℕ) (e : asked (sizesOf (k .head)) (giveBack i b (
                     record {
                       sizes = refl;
                       index = words-none 0 _ (k .index);
-                      count = one-word (places z) (k .count) a n start-low;
+                      count = words-set (places z) (k .count) a n start-low;
                       table = words-none 0 _ (k .table);
-                      helper = one-word (places z) (k .helper) _ j (free .newest .place);
-                      stack = one-word (places z) (k .stack) (a + j) _ (agrees .entry-low);
+                      helper = words-set (places z) (k .helper) _ j (free .newest .place);
+                      stack = words-set (places z) (k .stack) (a + j) _ (agrees .entry-low);
                       cache = words-none 0 _ (k .cache);
                       link =
                           relinked-few (k .link) (k .head .frames) _ _ _ (k .head .first) f-low (free .newest .frame) (ltb j n)
