@@ -1,5 +1,7 @@
 // The extent of the index: how many words the index of T places takes, and refusals 1 and 3 from a buffer's length. Document 01,
 // "Sizes".
+#![tactic(auto)]
+
 ghost use Rattle.std.specs.Prelude.{◌≡◌, ◌≤◌};
 ghost use Rattle.places.specs.Places.{words_for, size as size_of};
 ghost use Rattle.extent.specs.Checks.{places_ok, check_size, check as check_of};
