@@ -1,6 +1,8 @@
 // Plays finds on a lent buffer and writes a line for each call: document 01's sizes and finds, the
 // refusals, then thousands of calls on sets of many kinds. tests/finds/expected.rs writes the same
 // lines from the definition.
+#![tactic(auto)]
+
 mod calls;
 mod garbage;
 mod line;
