@@ -1,4 +1,6 @@
 // 32-bit little-endian words of a lent byte buffer. Word k is the four bytes from 4 k on.
+#![tactic(auto)]
+
 ghost use Rattle.std.specs.Prelude.{◌≡◌, ◌+◌, ◌*◌, ◌≤◌, ◌<◌, length, get_or};
 ghost use Rattle.words.specs.Words.{words_in, put_word};
 
@@ -31,7 +33,7 @@ pub fn index_at(bytes: &[u8], k: usize) -> usize
 }
 
 // Puts word k.
-pub fn put_word_lem(bytes: &mut [u8], k: usize, w: u32)
+pub fn put_word(bytes: &mut [u8], k: usize, w: u32)
     requires { 4 * k + 4 ≤ length bytes.old }
     ensures { bytes.new ≡ put_word bytes.old k w }
 {
