@@ -1,0 +1,23 @@
+-- The proofs of the claims, one idea a file.
+pub mod Sizes
+pub mod Regions
+pub mod Lookup
+pub mod Kept
+pub mod Steps
+pub mod Holders
+pub mod Records
+pub mod Zeroed
+pub mod Pairs
+pub mod Handed
+pub mod Stays
+pub mod Storing
+pub mod Changes
+pub mod Shows
+pub mod Bytes
+pub mod Unseen
+pub mod Spared
+pub mod Calls
+pub mod ShownSame
+pub mod Hidden
+pub mod PageSizes
+pub mod Map
