@@ -1,4 +1,6 @@
 // The contents of a map file, on bytes that may be anything: whether all of them are there, and what they tell of a space.
+#![tactic(auto)]
+
 ghost use Rattle.std.specs.Prelude.{◌≡◌, ◌*◌, ◌≤◌, ◌<◌, length};
 ghost use Rattle.words.specs.Words.{words_in};
 ghost use Rattle.machine.specs.Answers.{fullness_says};
