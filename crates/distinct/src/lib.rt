@@ -1,5 +1,7 @@
 // Whether numbers that stand in a file are all below a bound and all different. Those seen so far are a set in a lent buffer, kept by the crate
 // `index` and used only through its promise.
+#![tactic(auto)]
+
 ghost use Rattle.std.specs.Prelude.{◌≡◌, false, [], ◌∷◌, ◌≤◌, length};
 ghost use Rattle.places.specs.Places.{all_new};
 ghost use Rattle.extent.specs.Checks.{check_size};
