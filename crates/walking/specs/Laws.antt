@@ -9,7 +9,7 @@ use Rattle.std.proofs.Math.ListN.{get_or}
 use Rattle.std.proofs.Math.Seq.{slice, slice-cons, length-slice}
 use Rattle.machine.specs.Map.{Entry, entry_words, whole_from, rest_in, blocks_in}
 use Rattle.machine.specs.MapRules.{all_within, entry_pages, entry_frames, tiled, fine_from}
-use Rattle.machine.specs.Laws.Map.Bodies.{entries_back, whole_entries}
+use Rattle.machine.proofs.Laws.Map.Bodies.{entries_back, whole_entries}
 use Rattle.distinct.specs.Distinct.{picked}
 
 -- ---- entries

@@ -6,7 +6,7 @@ use Rattle.std.proofs.lemmas.Bool.{false≢true}
 use Rattle.std.proofs.Math.Decide.{dec_le}
 use Rattle.std.proofs.Math.Seq.{slice, slice_empty, length-slice, take-nil, append_snoc}
 use Rattle.machine.specs.Map.{Block, blocks_in, row_start, row_length, part_in, rest_in, whole_from}
-use Rattle.machine.specs.Laws.Map.Bodies.{entries_back, whole_entries}
+use Rattle.machine.proofs.Laws.Map.Bodies.{entries_back, whole_entries}
 use Rattle.walking.specs.Laws.{start_at, length_at, count_at, next_at, entries_at, after_is, whole_short, whole_cut, head_slice}
 
 -- ---- a region of a whole body

@@ -1,4 +1,6 @@
 // The walk over a space's body in a map file that is to be read, and where the contents say that the body stands. Its words may be anything.
+#![tactic(auto)]
+
 ghost use Rattle.std.specs.Prelude.{◌≡◌, ◌+◌, ◌*◌, ◌≤◌, ◌<◌, length};
 ghost use Rattle.std.proofs.Math.Seq.{slice};
 ghost use Rattle.words.specs.Words.{words_in};
@@ -10,14 +12,14 @@ ghost use Rattle.walking.specs.Walking.{BodyAt, Fronts};
 use words::index_at;
 
 // Where a body stands: its first word, and the first word after it.
-#[derive(Drop)]
+#[derive(Clone, Copy)]
 pub struct Body {
     pub first: usize,
     pub to: usize,
 }
 
 // A region's length and its number of entries; or its head can't stand there.
-#[derive(Drop)]
+#[derive(Clone, Copy)]
 pub enum Front {
     Region(usize, usize),
     Bad,
