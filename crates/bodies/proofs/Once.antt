@@ -11,8 +11,8 @@ use lib.Seq.{slice}
 use Rattle.places.specs.Places.{all_new}
 use Rattle.machine.specs.Map.{blocks_in, whole_from}
 use Rattle.machine.specs.MapRules.{all_within, tiled, fine_body, pages_once, bodies_fine}
-use Rattle.machine.specs.Laws.Sizes.{both}
-use Rattle.machine.specs.Laws.Map.Again.{First, first_refusal}
+use Rattle.machine.proofs.Laws.Sizes.{both}
+use Rattle.machine.proofs.Laws.Map.Again.{First, first_picked}
 use Rattle.distinct.specs.Distinct.{picked, Reach, in_window, from_on}
 use Rattle.distinct.specs.Windows.{from_skip, from_keep, window_split}
 use Rattle.walking.specs.declared.Body.{Body}
@@ -97,7 +97,7 @@ module _ {n : ℕ} {ws : List ℕ} {first to at : ℕ} (x : Left n ws first to a
     split = blocks_next ws at to long some x.whole
 
     first_is : First n x.next (block_at ws at) (blocks_in (slice (next_at ws at) to ws))
-    first_is = first_refusal n x.next (block_at ws at) _ (sym (ap (tiled n x.next) split) ∙ x.tiles)
+    first_is = first_picked n x.next (block_at ws at) _ (sym (ap (tiled n x.next) split) ∙ x.tiles)
 
     -- with the start, the length and the number of entries that were read
     module _ (lo l k : ℕ) (lo-is : lo ≡ start_at ws at) (l-is : l ≡ length_at ws at) (k-is : k ≡ count_at ws at) where

@@ -3,8 +3,8 @@ use Rattle.std.specs.Prelude.{◌≡◌, refl, true, List, [], ◌∷◌, ℕ}
 use Rattle.std.proofs.Common.{arith, eq-eqb}
 use Rattle.machine.specs.Map.{rest_in, blocks_in, part_in, whole_from}
 use Rattle.machine.specs.MapRules.{tiled, fine_from, fine_body, bodies_fine}
-use Rattle.machine.specs.Laws.Sizes.{both}
-use Rattle.machine.specs.Laws.Map.Rules.{bodies_each}
+use Rattle.machine.proofs.Laws.Sizes.{both}
+use Rattle.machine.proofs.Laws.Map.Rules.{bodies_each}
 use Rattle.walking.specs.Rows.{Rowed, Bodied}
 
 -- it isn't cut, and its regions follow each other from some page on

@@ -1,5 +1,7 @@
 // The bodies of a map file that is to be read: whether each is fine, and whether every frame of them and of the pool stands there once. Nothing is
 // stored but the numbers seen, in a lent buffer.
+#![tactic(auto)]
+
 ghost use Rattle.std.specs.Prelude.{◌≡◌, true, false, ◌++◌, ℕ, ◌≤◌, length};
 ghost use Rattle.std.proofs.Math.Seq.{slice};
 ghost use Rattle.places.specs.Places.{all_new};
