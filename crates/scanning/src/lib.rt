@@ -1,4 +1,6 @@
 // The first start from a place on, by the words of the index's lowest layer.
+#![tactic(auto)]
+
 ghost use Rattle.std.specs.Prelude.{◌≡◌, ◌+◌, ◌-◌, ◌≤◌, length};
 ghost use Rattle.places.specs.Places.{words_for};
 ghost use Rattle.layer.specs.Words.{bit_at};
