@@ -13,7 +13,7 @@ use Rattle.machine.specs.Machine.{page_mapped, map_written, map_file, region_emp
 use Rattle.words.specs.Words.{words_in}
 use Rattle.machine.specs.Map.{sizes_in}
 use Rattle.machine.specs.MapRules.{contents_ok, file_ok}
-use Rattle.machine.specs.Laws.Zeroed.{length_zeroed, zeroed_beyond}
+use Rattle.machine.proofs.Laws.Zeroed.{length_zeroed, zeroed_beyond}
 use Rattle.machine.specs.Claims.{PlaceOf}
 use Rattle.memory.specs.Memory.{Memory, memory, with_bytes, sizes_of, place_by, lengths}
 use Rattle.promise.specs.Holds.{Holds}
