@@ -1,4 +1,6 @@
 // A call as a request, its answer as a reply, and a reply as three numbers: shared by all that speaks of calls in general.
+#![tactic(auto)]
+
 ghost use Rattle.std.specs.Prelude.{List, [], ◌∷◌, ◌≡◌, ℕ, length, take};
 ghost use Rattle.machine.specs.Answers.{done_says, touched_says, looked_says, released_says, free_says, translated_says, copied_says, listed_says, map_written_says};
 ghost use Rattle.machine.specs.Answers.{fullness_says, given_back_says};
@@ -13,7 +15,7 @@ use machine::{
 };
 
 // A call with its numbers. Read, write and the two calls with a map have all of the byte buffer, list all of the records.
-#[derive(Drop)]
+#[derive(Clone, Copy)]
 pub enum Request {
     Start(u32, u32, u32, u32),
     Page(PageCall, u32, u32),
@@ -27,7 +29,7 @@ pub enum Request {
 }
 
 // What a call answered. The bytes of a read are the byte buffer, a map stands at its front, the regions at the front of the records.
-#[derive(Drop)]
+#[derive(Clone, Copy)]
 pub enum Reply {
     Done,
     Old(u32),
@@ -47,7 +49,7 @@ pub enum Reply {
 
 // A reply as numbers: its kind or the number of its refusal, the index words read, and a value.
 #[repr(C)]
-#[derive(Drop)]
+#[derive(Clone, Copy)]
 pub struct Answer {
     pub kind: u32,
     pub words: u32,

@@ -1,0 +1,8 @@
+-- The reply's numbers are the answer's.
+use mathlib.Core.Path.{refl, ap, ◌∙◌}
+use mathlib.Core.List.{[]}
+use Rattle.requests.specs.Codes.{encoded}
+use Rattle.requests.proofs.encode_translated.Goals as goal
+
+pub returns : goal.returns
+returns c = (c.encode.ensures [] [] refl) ∙ ap encoded (c.of_translated.ensures [] [])
