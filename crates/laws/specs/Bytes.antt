@@ -1,7 +1,7 @@
 -- Bytes stored in the RAM, and nothing else changed, keep the memory honest.
 use Rattle.std.specs.Prelude.{refl, List, ℕ}
 use Rattle.machine.specs.Machine.{State, with_ram}
-use Rattle.machine.specs.Laws.Kept.{sound_stored}
+use Rattle.machine.proofs.Laws.Kept.{sound_stored}
 use Rattle.memory.specs.Memory.{Memory, with_bytes}
 use Rattle.promise.specs.Holds.{Holds}
 

@@ -4,11 +4,11 @@ use Rattle.std.proofs.Common.{sym, ap, ◌∙◌, arith}
 use Rattle.std.proofs.Math.Option.{none, none-ne-some}
 use Rattle.machine.specs.Machine.{Lent, Call, start, page, free, translate, read, write, list, write_map, read_map, facts, Effect}
 use Rattle.machine.specs.Machine.{unchanged, prepared, refilled, start_put, page_mapped, region_emptied, page_given_back, span_stored, asked, Answer, Sizes}
-use Rattle.machine.specs.Laws.Calls.{map_described}
+use Rattle.machine.proofs.Laws.Calls.{map_described}
 use Rattle.machine.specs.declared.PageCall.TheVariants.{Mark, Drop, Touch, Look, Release, GiveBack}
 use Rattle.memory.specs.Memory.{Memory, sizes_of, lengths}
 use Rattle.promise.specs.Did.{Exactly, still, Tables, Writes, BoundsBy, Did}
-use Rattle.promise.specs.Refuses.{zeroed_all_long}
+use Rattle.promise.proofs.Refuses.{zeroed_all_long}
 use Rattle.laws.specs.Refusals.{PreparesNothing, refusal_still}
 
 -- words were changed, none added

@@ -7,8 +7,8 @@ use borrow.Author.Tests.{lt-ltb, ltb-true}
 use Rattle.machine.specs.Machine.{Sizes, sizes_ok, space_bytes, page_of_address, State, Uses, uses, enough, Call, translate, asked, Page, outside, unmapped}
 use Rattle.machine.specs.Machine.{mapped, page_of, ram_in, ram_at, translate_page, Answer, at, refused, Out, accepted, answer}
 use Rattle.machine.specs.Claims.{Address}
-use Rattle.machine.specs.Laws.Sizes.{passed}
-use Rattle.machine.specs.Laws.Holders.{backed}
+use Rattle.machine.proofs.Laws.Sizes.{passed}
+use Rattle.machine.proofs.Laws.Holders.{backed}
 use Rattle.memory.specs.Memory.{Memory, lengths}
 use Rattle.promise.specs.Holds.{Roomy, Holds}
 use Rattle.promise.specs.Did.{Did}
