@@ -6,7 +6,7 @@ use Rattle.std.proofs.lemmas.Bool.{lt-leb}
 use Rattle.std.proofs.Math.Pow.{pow-lt}
 use Rattle.places.specs.Laws.{any_holds, any_clear}
 use Rattle.machine.specs.Machine.{is_page_size, between, sizes_ok}
-use Rattle.machine.specs.Laws.Sizes.{both, fit}
+use Rattle.machine.proofs.Laws.Sizes.{both, fit}
 use Rattle.memory.specs.Memory.{sizes_of}
 use Rattle.memory.specs.declared.Head.{Head}
 
