@@ -13,7 +13,7 @@ use Rattle.words.specs.Laws.{length_words, words_long}
 use Rattle.machine.specs.State.{sizes_ok}
 use Rattle.machine.specs.Map.{Entry, first_body, file_words, blocks_in, sizes_in, row_count, part_in}
 use Rattle.machine.specs.MapRules.{entry_frames, entries_of, bodies_fine, held_frames, parts_in, same, rules_ok, contents_ok}
-use Rattle.machine.specs.Laws.Sizes.{both, Fit, fit}
+use Rattle.machine.proofs.Laws.Sizes.{both, Fit, fit}
 use Rattle.walking.specs.Rows.{Bodied}
 use Rattle.bodies.specs.Laws.{fine_bodied}
 use Rattle.judging.specs.Contents.{Sized, rows_tile, counts_from, told_from}

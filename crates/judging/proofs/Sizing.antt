@@ -11,7 +11,7 @@ use Rattle.machine.specs.Machine.{sizes, sizes_ok}
 use Rattle.machine.specs.Answers.{page_size_says, page_size_for}
 use Rattle.machine.specs.Map.{sizes_in}
 use Rattle.machine.specs.MapRules.{contents_words, contents_whole, contents_ok}
-use Rattle.machine.specs.Laws.PageSizes.{none_of, bytes_of}
+use Rattle.machine.proofs.Laws.PageSizes.{none_of, bytes_of}
 use Rattle.machine.specs.declared.PageSize.{PageSize}
 use Rattle.machine.specs.declared.MadeSize.{MadeSize}
 use Rattle.machine.specs.declared.MadeSize.TheVariants.{Made, Refused}

@@ -1,5 +1,5 @@
 -- What a file that keeps the rules gives to the walks over its bodies.
-use Rattle.std.specs.Prelude.{◌≡◌, refl, true, false, List, ℕ, ◌*◌, ◌/◌, ◌%◌, ◌≤◌, eqb, length, get_or}
+use Rattle.std.specs.Prelude.{◌≡◌, refl, true, List, ℕ, ◌*◌, ◌/◌, ◌%◌, ◌≤◌, eqb, length, get_or}
 use Rattle.std.proofs.Common.{sym, ◌∙◌, arith}
 use Rattle.std.proofs.lemmas.Bool.{false≢true}
 use Rattle.std.proofs.Math.Decide.{dec_le}
@@ -7,8 +7,8 @@ use Rattle.words.specs.Words.{words_in}
 use Rattle.words.specs.Laws.{length_words}
 use Rattle.machine.specs.Map.{first_body, file_words, sizes_in}
 use Rattle.machine.specs.MapRules.{parts_in, same, rules_ok, file_ok}
-use Rattle.machine.specs.Laws.Sizes.{both}
-use Rattle.machine.specs.Laws.Map.Rules.{is_same, each_bodies, rules_of}
+use Rattle.machine.proofs.Laws.Sizes.{both}
+use Rattle.machine.proofs.Laws.Map.Rules.{is_same, each_bodies, rules_of}
 use Rattle.walking.specs.Rows.{Bodied}
 use Rattle.bodies.specs.Laws.{fine_bodied}
 use Rattle.judging.specs.Contents.{rows_tile, counts_from}

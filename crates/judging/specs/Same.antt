@@ -10,9 +10,9 @@ use Rattle.std.proofs.Math.ListN.{length, get_or, drop, length-append}
 use Rattle.sequence.specs.Lists.{tabulate}
 use Rattle.machine.specs.Map.{Part, first_body, rows, bodies, file_words, blocks_in, sizes_in, row_start, row_length, row_count, part_in}
 use Rattle.machine.specs.MapRules.{entries_of, space_in, parts_in, same}
-use Rattle.machine.specs.Laws.Sizes.{both}
-use Rattle.machine.specs.Laws.Map.Contents.{length_rows}
-use Rattle.machine.specs.Laws.Map.Rules.{is_same, same_is}
+use Rattle.machine.proofs.Laws.Sizes.{both}
+use Rattle.machine.proofs.Laws.Map.Contents.{length_rows}
+use Rattle.machine.proofs.Laws.Map.Rules.{is_same, same_is}
 use Rattle.judging.specs.Contents.{tiles_from, rows_tile, counts_from}
 use Rattle.judging.specs.Tiles.{Tile, tile, tiles_end}
 

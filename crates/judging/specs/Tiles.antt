@@ -5,7 +5,7 @@ use Rattle.std.proofs.Common.{arith, eqb-true}
 use Rattle.words.specs.Words.{words_in}
 use Rattle.words.specs.Laws.{length_words}
 use Rattle.machine.specs.Map.{first_body, row_start, row_length}
-use Rattle.machine.specs.Laws.Sizes.{both}
+use Rattle.machine.proofs.Laws.Sizes.{both}
 use Rattle.walking.specs.Rows.{Rowed}
 use Rattle.judging.specs.Contents.{tiles_from, rows_tile}
 

@@ -1,4 +1,6 @@
 // Judging a map file: whether it describes a state, told by its bytes alone. Nothing is stored but in a local buffer.
+#![tactic(auto)]
+
 ghost use Rattle.std.specs.Prelude.{◌≡◌, true, suc, ◌*◌, ◌≤◌, length};
 ghost use Rattle.std.proofs.Math.Seq.{slice};
 ghost use Rattle.words.specs.Words.{words_in};
@@ -16,7 +18,7 @@ use walking::body_at;
 use words::{index_at, word_at};
 
 // The sizes that a file's contents tell, as the head of an empty pool; or contents that can't be.
-#[derive(Drop)]
+#[derive(Clone, Copy)]
 pub enum Contents {
     Sizes(Head),
     Bad,
