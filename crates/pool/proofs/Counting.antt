@@ -9,7 +9,7 @@ use Rattle.memory.specs.Memory.{memory, sizes_of}
 use Rattle.memory.specs.declared.Head.{Head}
 use Rattle.promise.specs.Did.{frames_left, Did}
 use Rattle.pool.specs.Models.{count_says}
-use Rattle.pool.specs.Freeing.{free_did}
+use Rattle.pool.proofs.Freed.{free_did}
 
 module _ (h : Head) where
   -- whatever tables are there

@@ -1,2 +1,4 @@
+pub mod Freeing
+pub mod Freed
 pub mod Taking
 pub mod Counting

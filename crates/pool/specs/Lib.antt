@@ -2,4 +2,3 @@ pub mod Models
 pub mod Takes
 pub mod Chains
 pub mod Pool
-pub mod Freeing

@@ -10,7 +10,7 @@ use Rattle.sequence.specs.Lists.{tabulate, length_tabulate}
 use Rattle.sequence.specs.Sums.{sum, sum_map, sum_reverse, sum_append, hit, hit_same}
 use Rattle.machine.specs.Machine.{State, Pair, places, region, frames_of, with_pair}
 use Rattle.machine.specs.Claims.{Sound, no_pair, times_in, times_free}
-use Rattle.machine.specs.Laws.Holders.{no_holder, at_most_once, pool_and_resident}
+use Rattle.machine.proofs.Laws.Holders.{no_holder, at_most_once, pool_and_resident}
 use Rattle.memory.specs.Memory.{Memory, at}
 use Rattle.memory.specs.declared.Head.{Head}
 use Rattle.promise.specs.Holds.{Chain, Linked, Pooled, unused, Holds}

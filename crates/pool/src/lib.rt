@@ -1,4 +1,6 @@
 // The pool of free frames: whether it is empty, its first frame taken, a region's chain put back, its length. Its numbers are the head's.
+#![tactic(auto)]
+
 ghost use Rattle.std.specs.Prelude.{◌≡◌, List, ℕ, ◌+◌, ◌<◌, ◌≤◌, length, set};
 ghost use Rattle.machine.specs.Machine as machine;
 ghost use Rattle.machine.specs.Answers.{free_says};
@@ -12,7 +14,7 @@ use machine::Free;
 use memory::Head;
 
 // A frame taken from the pool, and the head without it.
-#[derive(Drop)]
+#[derive(Clone, Copy)]
 pub struct Taken {
     pub frame: u32,
     pub head: Head,
