@@ -1,4 +1,6 @@
 // What stands before the first pair of a map that is read: its starts in the index, and its frames linked in the order of the file.
+#![tactic(auto)]
+
 ghost use Rattle.std.specs.Prelude.{◌≡◌, true, ◌∷◌, ◌++◌, ◌+◌, ◌*◌, ◌≤◌, ◌<◌, length};
 ghost use Rattle.std.proofs.Math.Seq.{slice};
 ghost use Rattle.sequence.specs.Lists.{Each};
@@ -67,7 +69,7 @@ fn lay(bytes: &[u8], from: usize, step: usize, n: usize, last: u32, link: &mut [
 }
 
 // The first and the last frame linked so far, if some are.
-#[derive(Drop)]
+#[derive(Clone, Copy)]
 pub struct Laid {
     pub first: u32,
     pub last: u32,
