@@ -9,11 +9,11 @@ use Rattle.index.specs.Answers as index
 use Rattle.machine.specs.Machine.{Sizes, places, place_of, State, is_start, region, start_of, not_below, frame_in, words_at, outside, unmapped, mapped, page_of}
 use Rattle.machine.specs.Machine.{page_at, page_of_address, ram_at}
 use Rattle.machine.specs.Claims.{no_pair}
-use Rattle.machine.specs.Laws.Sizes.{both, place_below}
-use Rattle.machine.specs.Laws.Regions.{owner_of}
-use Rattle.machine.specs.Laws.Lookup.{Entry, frame_in_lem, not_in, Mapped, mapped_is, unmapped_is}
-use Rattle.machine.specs.Laws.Holders.{frame_below}
-use Rattle.machine.specs.Laws.Holders.{ram_mapped}
+use Rattle.machine.proofs.Laws.Sizes.{both, place_below}
+use Rattle.machine.proofs.Laws.Regions.{owner_of}
+use Rattle.machine.proofs.Laws.Lookup.{Entry, frame_in_lem, not_in, Mapped, mapped_is, unmapped_is}
+use Rattle.machine.proofs.Laws.Holders.{frame_below}
+use Rattle.machine.proofs.Laws.Holders.{ram_mapped}
 use Rattle.memory.specs.Memory.{Memory, at, sizes_of}
 use Rattle.lookup.specs.declared.Sight.{Sight}
 use Rattle.lookup.specs.declared.Sight.TheVariants as sight_is

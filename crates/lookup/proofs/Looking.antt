@@ -1,22 +1,16 @@
 -- A look keeps the promise.
 use Rattle.std.specs.Prelude.{◌≡◌, refl, Bool, true, false, List, ℕ, ◌<◌, leb, ltb}
-use Rattle.std.proofs.Common.{sym, ◌∙◌, inl, inr, arith, ltb-true}
-use Rattle.std.proofs.Math.Path.{ap}
+use Rattle.std.proofs.Common.{inl, inr, arith, ltb-true}
 use Rattle.index.specs.declared.Found.{Found}
 use Rattle.index.specs.declared.Found.TheVariants as found_is
-use Rattle.machine.specs.declared.PageCall.TheVariants.{Look}
-use Rattle.machine.specs.Machine.{places, place_of, State, Lent, words_at, page_of, look, asked, Answer, look_page, accepted, answer, after}
-use Rattle.memory.specs.Memory.{Memory, at, sizes_of, lengths}
+use Rattle.machine.specs.Machine.{places, place_of, State, Lent, words_at, page_of, look, look_page}
+use Rattle.memory.specs.Memory.{Memory, at, sizes_of}
 use Rattle.lookup.specs.declared.Sight.{Sight}
 use Rattle.lookup.specs.declared.Sight.TheVariants as sight_is
-use Rattle.promise.specs.Holds.{Holds}
 use Rattle.promise.specs.Shown.{resident_ok}
-use Rattle.promise.specs.Did.{Later, Did}
-use Rattle.lookup.specs.Models.{sight_mapped, sight_in, sight_found, SeenIf, Seen, SeenAt, look_says, Looks, LookDone}
-use Rattle.laws.specs.Models.{look_lengths}
-use Rattle.laws.specs.Refusals.{passed_step, kept_did, checked_did, admitted}
-use Rattle.laws.specs.Checks.{page_check}
-use Rattle.lookup.specs.Lookup.{SightIs, seen_honest}
+use Rattle.promise.specs.Did.{Later}
+use Rattle.lookup.specs.Models.{sight_mapped, sight_in, sight_found, SeenIf, Seen, SeenAt, look_says}
+use Rattle.lookup.specs.Lookup.{SightIs}
 
 -- no find shows a frame, and a frame in the table counts below F only
 not_found : (lo f : ℕ) (r : Found) → sight_is.Mapped f ≡ sight_found lo r → ⊥
@@ -56,32 +50,15 @@ seen_frame k i b f seen =
 pub seen_below : (k : Memory) (i b f : ℕ) → SeenAt k i b (sight_is.Mapped f) → f < k.head.frames
 seen_below k i b f seen = (seen_frame k i b f seen).below
 
-look_later : (k : Memory) (i b : ℕ) (l : Lent) (s : Sight) → SeenAt k i b s → Later (sizes_of k.head) (look i b l) (look_says s)
+pub look_later : (k : Memory) (i b : ℕ) (l : Lent) (s : Sight) → SeenAt k i b s → Later (sizes_of k.head) (look i b l) (look_says s)
 look_later k i b l (sight_is.Mapped f) seen = (refl, seen_below k i b f seen)
 look_later k i b l (sight_is.Unmapped a c) seen = refl
 look_later k i b l (sight_is.Outside c) seen = (inl refl, refl)
 look_later k i b l sight_is.Broken seen = (inr (inl refl), refl)
 
 -- what is seen is what the machine says
-look_says_lem : (m : State) (p : ℕ) (s : Sight) → SightIs m p s → look_says s ≡ look_page (words_at m p) (page_of m p)
+pub look_says_lem : (m : State) (p : ℕ) (s : Sight) → SightIs m p s → look_says s ≡ look_page (words_at m p) (page_of m p)
 look_says_lem m p (sight_is.Mapped f) (a, e) = rw e
 look_says_lem m p (sight_is.Unmapped a c) (e, w) = rw (e, w)
 look_says_lem m p (sight_is.Outside c) (e, w) = rw (e, w)
 look_says_lem m p sight_is.Broken bad = absurd bad
-
-module _ (i b : ℕ) (k : Memory) (passes : asked (sizes_of k.head) (look i b (lengths k)) ≡ 0) (s : Sight) (seen : SeenAt k i b s) where
-  look_honest : (m : State) → Holds m k → (look_says s ≡ answer m (look i b (lengths k))) × (after m (look i b (lengths k)) ≡ m)
-  unfolding accepted
-  look_honest m h =
-      let c = look i b (lengths k) in
-      let e : asked m.sizes c ≡ 0 = ap (λ z. asked z c) (sym h.sizes_are) ∙ passes in
-      let g = admitted m.sizes Look i b (lengths k) e in
-      let o = passed_step m c e in
-      (look_says_lem m _ s (seen_honest m k h i b g.space g.page s seen) ∙ ap (λ x. x.answer) (sym o), ap (λ x. x.after) o)
-
-pub look_did : (i b : ℕ) (k : Memory) (a : Answer) (k' : Memory) → LookDone i b k a k' → Did (look i b) k a k'
-look_did i b k a k' d =
-    checked_did (look i b) k _ (page_check k i b Look (look_lengths k) refl) (Looks k i b) a k' d
-    (λ e r.
-    rw (r.answer_is, r.same)
-    (kept_did (look i b) k (look_says r.sight) e (look_later k i b (lengths k) r.sight r.seen) (tt, tt) (look_honest i b k e r.sight r.seen)))
