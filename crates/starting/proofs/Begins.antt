@@ -18,9 +18,10 @@ use Rattle.promise.specs.Did.{Did}
 use Rattle.laws.specs.Models.{lent_to, check_of}
 use Rattle.starting.specs.Models.{change_says, start_head}
 use Rattle.laws.specs.Checking.{checked_no, checked_yes, ready}
-use Rattle.starting.specs.Starting.{start_did}
+use Rattle.starting.proofs.Started.{start_did}
 use Rattle.machine.specs.Machine.{sizes}
 use Rattle.starting.specs.Steps.{Beginnable, BeginsAs}
+use Rattle.starting.specs.Models.{Starts}
 
 pub begins : (next : Head) (t : ℕ) (ws count : List ℕ) (d : Change) (a : Answer) (ws' count' : List ℕ) → t ≡ places (sizes_of next)
     → Prepared t ws d ws' → count' ≡ replicate t 0 ++ drop t count → a ≡ change_says d → BeginsAs next ws count next a ws' count'
@@ -68,11 +69,11 @@ module _ (head : Head) (s n f bytes : ℕ) (ws count : List ℕ) (made : MadeSiz
         (rw (← sized, made_is) (
           size.shift,
           refl,
-          checked_no _ _ number _ _ _ a checked fails r.1
+          checked_no (λ x. refused x) _ number (Starts (start_head s n f size.shift) (memory head ws count table helper stack cache link ram)) _ _ a checked fails r.1
               (ap (λ (x : Head). memory x ws count table helper stack cache link ram) r.0),
         ))
 
     pub start_begun : (h' : Head) (a : Answer) (ws' count' : List ℕ) → number ≡ 0 → BeginsAs next ws count h' a ws' count' → DidStart h' a ws' count'
     start_begun h' a ws' count' pass d table helper stack cache link ram =
         start_did s n f bytes _ a _
-        (rw (← sized, made_is) (size.shift, refl, checked_yes _ _ number _ _ _ a checked pass (d head table helper stack cache link ram)))
+        (rw (← sized, made_is) (size.shift, refl, checked_yes (λ x. refused x) _ number (Starts (start_head s n f size.shift) (memory head ws count table helper stack cache link ram)) (memory head ws count table helper stack cache link ram) (memory h' ws' count' table helper stack cache link ram) a checked pass (d head table helper stack cache link ram)))

@@ -1,1 +1,4 @@
+pub mod Starting
+pub mod Stands
+pub mod Started
 pub mod Begins

@@ -14,3 +14,9 @@ abbrev pub BeginsAs : Head → List ℕ → List ℕ → Head → Answer → Lis
 BeginsAs next ws count h' a ws' count' =
     (h : Head) (table helper stack cache link ram : List ℕ)
     → Starts next (memory h ws count table helper stack cache link ram) a (memory h' ws' count' table helper stack cache link ram)
+
+-- no frame used yet
+pub record Unused (h : Head) : Type 0 where
+  pub first : h.first ≡ 0
+  pub many : h.many ≡ 0
+  pub fresh : h.fresh ≡ 0

@@ -1,4 +1,6 @@
 // Starting: the sizes set, the index and the resident counts prepared. Marking shares the lengths that it tests, the reading of a map what begins.
+#![tactic(auto)]
+
 ghost use Rattle.std.specs.Prelude.{◌≡◌, List, ◌++◌, ℕ, ◌≤◌, length, drop as dropped, replicate};
 ghost use Rattle.machine.specs.Machine as machine;
 ghost use Rattle.machine.specs.Machine.{sizes};

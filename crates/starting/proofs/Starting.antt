@@ -1,9 +1,8 @@
 -- Start keeps the promise.
-use Rattle.std.specs.Prelude.{◌≡◌, Bool, true, false, cond, ◌&&◌, List, [], ◌++◌, ℕ, ◌^◌, ◌≤◌, length, replicate}
+use Rattle.std.specs.Prelude.{◌≡◌, true, false, List, [], ◌++◌, ℕ, ◌≤◌, length, replicate}
 use Rattle.std.proofs.Math.Path.{refl, sym, ap, subst, fun_ext}
 use Rattle.std.proofs.Common.{ap₂, ◌∙◌, not-suc-le-zero, zero-add, arith, length-append, length-drop}
 use Rattle.std.proofs.lemmas.Bool.{false≢true}
-use Rattle.std.proofs.Math.Bool.{and-false}
 use Rattle.std.proofs.Math.ListN.{drop as dropped, get_or-append}
 use Rattle.std.proofs.lemmas.List.{length-replicate}
 use Rattle.sequence.specs.Lists.{tabulate, get_or_same}
@@ -12,19 +11,17 @@ use Rattle.index.specs.Answers as index
 use Rattle.index.specs.declared.Change.TheVariants as change_is
 use Rattle.index.specs.Words.{index_of}
 use Rattle.index.specs.Laws.{length_index, index_front, index_ext}
-use Rattle.machine.specs.Machine.{Sizes, sizes, places, is_page_size, sizes_ok, first_refusal, is_start, region, Lent}
+use Rattle.machine.specs.Machine.{Sizes, sizes, places, sizes_ok, first_refusal, is_start, region}
 use Rattle.machine.specs.Machine.{uses, start, asked, Answer, done, begun, accepted, answer, after}
-use Rattle.machine.specs.Answers.{size as size_is, no_size, page_size_for}
-use Rattle.machine.specs.Laws.Sizes.{fit}
-use Rattle.machine.specs.Laws.Kept.{sound_begun}
+use Rattle.machine.proofs.Laws.Kept.{sound_begun}
 use Rattle.memory.specs.Memory.{Memory, memory, sizes_of, lengths}
 use Rattle.memory.specs.declared.Head.{Head}
 use Rattle.promise.specs.Holds.{Holds}
 use Rattle.promise.specs.Did.{Did}
 use Rattle.laws.specs.Models.{check_of, mark_lengths}
-use Rattle.starting.specs.Models.{change_says, start_head, Starts, StartIf, StartDone}
+use Rattle.starting.specs.Models.{change_says, start_head, Starts}
 use Rattle.starting.specs.Steps.{BeginsAs}
-use Rattle.laws.specs.Refusals.{passed_step, early_did, checked_did, start_admitted, check_size_passes}
+use Rattle.laws.specs.Refusals.{passed_step, start_admitted, check_size_passes}
 use Rattle.laws.specs.Checks.{space_zero, same_lent}
 
 -- whatever the head before it
@@ -82,7 +79,7 @@ module _ (s n f shift : ℕ) (k : Memory) where
         ram_is = refl;
       }
 
-  start_then : asked (sizes_of k.head) (start given (lengths k)) ≡ 0 → (a : Answer) (k' : Memory) → Starts (start_head s n f shift) k a k'
+  pub start_then : asked (sizes_of k.head) (start given (lengths k)) ≡ 0 → (a : Answer) (k' : Memory) → Starts (start_head s n f shift) k a k'
       → Did (start given) k a k'
   unfolding accepted
   start_then pass a k' d =
@@ -122,21 +119,6 @@ module _ (s n f shift : ℕ) (k : Memory) where
         begins = λ _. (refl, begun_holds w.sizes_ok_lem);
       })
 
-no_page_size : (z₀ z : Sizes) (l : Lent) → is_page_size z.page ≡ false → asked z₀ (start z l) ≡ 1
-unfolding asked sizes_ok
-no_page_size z₀ z l e = rw (e, and-false)
-
-pub start_did : (s n f p : ℕ) (k : Memory) (a : Answer) (k' : Memory) → StartDone s n f p k a k'
-    → Did (start (sizes s n f p)) k a k'
-unfolding page_size_for
-start_did s n f p k a k' d = go (is_page_size p) refl d
-  where
-    go : (t : Bool) → is_page_size p ≡ t → StartIf (cond t (size_is p) (no_size 1)) s n f k a k' → Did (start (sizes s n f p)) k a k'
-    go false e d = rw (d.answer_is, d.same) (early_did (start (sizes s n f p)) k 0 (no_page_size (sizes_of k.head) (sizes s n f p) (lengths k) e))
-    go true e (shift, is, d) =
-        subst (λ p. Did (start (sizes s n f p)) k a k') is
-        (checked_did (start (sizes s n f (2 ^ shift))) k _ (start_check k s n f shift) _ a k' d (λ pass r. start_then s n f shift k pass a k' r))
-
 -- ---- what begins, for the calls that go on from there
 
 -- head, index and resident counts as a start of the sizes of h leaves them
@@ -154,18 +136,3 @@ begun_as h ok ws count long h' a ws' count' d =
       index_is = ap (λ (k : Memory). k.index) s.after_is ∙ s.prepared.cleared (check_size_passes (sizes_of h) ok (length ws) long);
       count_is = ap (λ (k : Memory). k.count) s.after_is;
     }
-
--- no frame used yet
-pub record Unused (h : Head) : Type 0 where
-  pub first : h.first ≡ 0
-  pub many : h.many ≡ 0
-  pub fresh : h.fresh ≡ 0
-
--- memory so begun stands for the state that a start of these sizes begins
-pub begun_stands : (h : Head) → Unused h → sizes_ok (sizes_of h) ≡ true → (ws count : List ℕ) (h' : Head) (ws' count' : List ℕ) → Begun h ws count h' ws' count'
-    → (table helper stack cache link ram : List ℕ) → Holds (begun (sizes_of h) ram) (memory h' ws' count' table helper stack cache link ram)
-begun_stands h u ok ws count h' ws' count' b table helper stack cache link ram =
-    let new : h ≡ start_head h.spaces h.pages h.frames h.page.shift =
-    λ j. record { spaces = h.spaces; pages = h.pages; frames = h.frames; page = h.page; first = u.first j; many = u.many j; fresh = u.fresh j } in
-    rw (b.head_is, b.index_is, b.count_is, new)
-    (begun_holds h.spaces h.pages h.frames h.page.shift (memory h ws count table helper stack cache link ram) ok)
