@@ -20,9 +20,9 @@ use Rattle.machine.specs.Machine.{Uses, uses, Call, mark, drop, facts, asked, An
 use Rattle.machine.specs.Machine.{mark_at, drop_at, accepted, step, answer, after, ended}
 use Rattle.machine.specs.declared.PageCall.TheVariants.{Mark, Drop}
 use Rattle.machine.specs.Claims.{Sound}
-use Rattle.machine.specs.Laws.Sizes.{fit}
-use Rattle.machine.specs.Laws.Regions.{own_marked, own_dropped}
-use Rattle.machine.specs.Laws.Kept.{sound_marked, sound_dropped}
+use Rattle.machine.proofs.Laws.Sizes.{fit}
+use Rattle.machine.proofs.Laws.Regions.{own_marked, own_dropped}
+use Rattle.machine.proofs.Laws.Kept.{sound_marked, sound_dropped}
 use Rattle.memory.specs.Memory.{Memory, at, sizes_of, lengths}
 use Rattle.promise.specs.Holds.{Holds}
 use Rattle.promise.specs.Did.{Later, Marks, Bounds, Did}
