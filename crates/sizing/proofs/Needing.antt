@@ -7,7 +7,7 @@ use native.Mathlib.Omega.{arith}
 use lib.Dec.{leb}
 use Rattle.machine.specs.Machine.{Sizes, places, sizes_ok, is_page_size, between}
 use Rattle.machine.specs.Answers.{size as sized, no_size, page_size_says, page_size_for}
-use Rattle.machine.specs.Laws.Sizes.{fit, some_places}
+use Rattle.machine.proofs.Laws.Sizes.{fit, some_places}
 use Rattle.machine.specs.declared.MadeSize.{MadeSize}
 use Rattle.machine.specs.declared.MadeSize.TheVariants.{Made, Refused}
 use Rattle.machine.specs.declared.PageSize.{PageSize}

@@ -9,7 +9,7 @@ use Rattle.places.specs.Places.{size}
 use Rattle.machine.specs.Machine.{Sizes, places, State, sizes_ok}
 use Rattle.machine.specs.Map.{first_body, map_of}
 use Rattle.machine.specs.Claims.{Sound}
-use Rattle.machine.specs.Laws.Map.Length.{map_length}
+use Rattle.machine.proofs.Laws.Map.Length.{map_length}
 use Rattle.memory.specs.Memory.{Memory}
 use Rattle.promise.specs.Holds.{Roomy}
 use Rattle.sizing.specs.declared.Needs.{Needs}

@@ -1,4 +1,6 @@
 // How much memory a start of some sizes asks for, so that a caller can lend it.
+#![tactic(auto)]
+
 ghost use Rattle.std.specs.Prelude.{[], ◌∷◌, true, ◌≡◌};
 ghost use Rattle.machine.specs.Machine.{sizes, sizes_ok};
 ghost use Rattle.memory.specs.Memory.{sizes_of};
@@ -11,7 +13,7 @@ use memory::Head;
 // Words of the index, entries of the five tables with one a place, of the frame link, bytes of RAM, and of a map file at most;
 // or refusal 1, for sizes outside their limits, and 0.
 #[repr(C)]
-#[derive(Drop)]
+#[derive(Clone, Copy)]
 pub struct Needs {
     pub refusal: u32,
     pub index: usize,
