@@ -1,4 +1,2 @@
 pub mod Fits
 pub mod Models
-pub mod Fitting
-pub mod Planning

@@ -1,4 +1,6 @@
 // What a touch is to do, decided before anything is changed: the page seen, the pool asked, the region's words tested.
+#![tactic(auto)]
+
 ghost use Rattle.std.specs.Prelude.{◌≡◌, ◌+◌, ◌<◌, ◌≤◌, length};
 ghost use Rattle.planning.specs.Models.{top_ok, fit_ok, plan_for};
 ghost use Rattle.planning.specs.Fits.{InReach};
@@ -8,7 +10,7 @@ use lookup::Sight;
 use memory::Head;
 
 // What a touch is to do: nothing for a resident page; map one of the region that starts at a place.
-#[derive(Drop)]
+#[derive(Clone, Copy)]
 pub enum Plan {
     Old(u32),
     New(usize, u32),

@@ -8,7 +8,7 @@ use Rattle.index.specs.Promise.{Bounded}
 use Rattle.places.specs.Places.{size}
 use Rattle.machine.specs.declared.PageCall.TheVariants.{Touch}
 use Rattle.machine.specs.Machine.{places, sizes_ok, place_of, touch, asked}
-use Rattle.machine.specs.Laws.Sizes.{both, fit, place_below}
+use Rattle.machine.proofs.Laws.Sizes.{both, fit, place_below}
 use Rattle.memory.specs.Memory.{Memory, memory, at, sizes_of, lengths}
 use Rattle.memory.specs.declared.Head.{Head}
 use Rattle.lookup.specs.declared.Sight.{Sight}
@@ -21,7 +21,7 @@ use Rattle.lookup.specs.Models.{sight_mapped, sight_in, sight_found, SeenIf, See
 use Rattle.pool.specs.Models.{empty_pool, next_ok, taken_from, taken}
 use Rattle.planning.specs.Models.{top_ok, fit_ok, plan_if, plan_for, plan_of}
 use Rattle.laws.specs.Refusals.{admitted, check_passes}
-use Rattle.lookup.specs.Looking.{seen_below}
+use Rattle.lookup.proofs.Looking.{seen_below}
 use Rattle.lookup.specs.Ready.{Ready, SeenOf}
 use Rattle.planning.specs.Fits.{InReach, Planned}
 

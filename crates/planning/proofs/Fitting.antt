@@ -4,8 +4,8 @@ use Rattle.std.proofs.Math.Path.{refl}
 use Rattle.std.proofs.Common.{ap, arith, lt-ltb}
 use Rattle.std.proofs.Math.Option.{some}
 use Rattle.machine.specs.Machine.{places, State, region, start_of, page_of, unmapped}
-use Rattle.machine.specs.Laws.Regions.{owner_of}
-use Rattle.machine.specs.Laws.Lookup.{is_unmapped_lem}
+use Rattle.machine.proofs.Laws.Regions.{owner_of}
+use Rattle.machine.proofs.Laws.Lookup.{is_unmapped_lem}
 use Rattle.memory.specs.Memory.{Memory, at}
 use Rattle.promise.specs.Holds.{Holds}
 use Rattle.planning.specs.Models.{top_ok, fit_ok}
