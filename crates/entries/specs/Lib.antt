@@ -1,5 +1,2 @@
 pub mod Fits
 pub mod Models
-pub mod Mappable
-pub mod Bounds
-pub mod Mapping

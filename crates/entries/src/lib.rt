@@ -1,4 +1,6 @@
 // The entries of a new page: the pool's first frame for it, and one word in each of the six tables, with no loop.
+#![tactic(auto)]
+
 ghost use Rattle.entries.specs.Fits.{Mappable, Mapped};
 
 use checks::wide;

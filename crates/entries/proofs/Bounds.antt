@@ -10,7 +10,7 @@ use Rattle.promise.specs.Shown.{Shown}
 use Rattle.promise.specs.Within.{Within}
 use Rattle.pool.specs.Models.{taken_from, taken}
 use Rattle.laws.specs.Refusals.{words_none, words_set}
-use Rattle.planning.specs.Planning.{Inside}
+use Rattle.planning.proofs.Planning.{Inside}
 use Rattle.entries.specs.Models.{map_entry, map_page}
 
 -- a frame taken changes no size

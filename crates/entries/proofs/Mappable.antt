@@ -2,14 +2,14 @@
 use Rattle.std.specs.Prelude.{◌≡◌, refl, true, List, ℕ, zero, suc, ◌+◌, ◌≤◌, ◌<◌, length}
 use Rattle.std.proofs.Common.{arith, ltb-true}
 use Rattle.machine.specs.Machine.{places, sizes_ok, every_table}
-use Rattle.machine.specs.Laws.Sizes.{fit}
+use Rattle.machine.proofs.Laws.Sizes.{fit}
 use Rattle.memory.specs.Memory.{Memory, at, sizes_of, lengths}
 use Rattle.memory.specs.declared.Head.{Head}
 use Rattle.laws.specs.Refusals.{Long}
 use Rattle.pool.specs.Models.{taken_from}
 use Rattle.pool.specs.Takes.{TakeableFrom, Top}
 use Rattle.planning.specs.Models.{top_ok}
-use Rattle.planning.specs.Planning.{Inside}
+use Rattle.planning.proofs.Planning.{Inside}
 use Rattle.entries.specs.Fits.{Mappable}
 
 -- the frame can be taken

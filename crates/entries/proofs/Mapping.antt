@@ -1,6 +1,6 @@
 -- On honest memory storing the words of a new page keeps memory and machine together, and so does clearing its frame.
 use Rattle.std.specs.Prelude.{◌≡◌, refl, ◌≢◌, List, [], ◌∷◌, ◌++◌, ℕ, ◌+◌, ◌<◌, length, get_or}
-use Rattle.std.proofs.Common.{sym, ap, ap₂, ◌∙◌, subst, arith, length-set, length-append, get_or-set_same, get_or-set_other}
+use Rattle.std.proofs.Common.{true, sym, ap, ap₂, ◌∙◌, subst, arith, length-set, length-append, get_or-set_same, get_or-set_other}
 use Rattle.std.proofs.lemmas.Bool.{false≢true}
 use Rattle.std.proofs.Math.Option.{some-injective}
 use Rattle.std.proofs.Math.Decide.{ℕ_discrete}
@@ -10,21 +10,22 @@ use Rattle.machine.specs.declared.PageCall.TheVariants.{Touch}
 use Rattle.machine.specs.Machine.{Sizes, places, State, Pair, region, start_of, page_of, unmapped, with_pair, zeroed, cleared, Lent}
 use Rattle.machine.specs.Machine.{every_table, every_buffer, page_facts}
 use Rattle.machine.specs.Claims.{no_pair}
-use Rattle.machine.specs.Laws.Lookup.{Unmapped, is_unmapped_lem, not_in}
-use Rattle.machine.specs.Laws.Kept.{sound_paired}
-use Rattle.machine.specs.Laws.Stays.{held_inside}
+use Rattle.machine.proofs.Laws.Lookup.{Unmapped, is_unmapped_lem, not_in}
+use Rattle.machine.proofs.Laws.Kept.{sound_paired}
+use Rattle.machine.proofs.Laws.Stays.{held_inside}
 use Rattle.memory.specs.Memory.{Memory, with_bytes, at, sizes_of, lengths}
 use Rattle.promise.specs.Holds.{Placed, Holds}
-use Rattle.planning.specs.Planning.{Inside, fit_top}
-use Rattle.planning.specs.Fitting.{NextWord, next_word, fits_honest}
+use Rattle.planning.proofs.Planning.{Inside, fit_top}
+use Rattle.planning.proofs.Fitting.{NextWord, next_word, fits_honest}
 use Rattle.entries.specs.Fits.{Mappable}
 use Rattle.entries.specs.Models.{map_entry, map_page}
-use Rattle.entries.specs.Mappable.{inside_mappable}
-use Rattle.entries.specs.Bounds.{sizes_taken}
+use Rattle.entries.proofs.Mappable.{inside_mappable}
+use Rattle.entries.proofs.Bounds.{sizes_taken}
 use Rattle.pool.specs.Models.{newest_of, taken}
 use Rattle.pool.specs.Pool.{taken_honest, pooled_taken, linked_paired, newest_honest}
 use Rattle.laws.specs.Refusals.{Long}
 use Rattle.laws.specs.Room.{stack_room}
+use Rattle.planning.specs.Models.{top_ok}
 use Rattle.laws.specs.Bytes.{bytes_hold}
 
 -- enough for every buffer is enough for the tables
@@ -48,6 +49,9 @@ module _ (m : State) (k : Memory) (h : Holds m k) (p a : ℕ) (low : p < places 
   next : NextWord m k a
   next = next_word m k h p a low absent
 
+  below_places : {x : ℕ} → x < places m.sizes → x < places (sizes_of k.head)
+  below_places {x} l = subst (λ (z : Sizes). x < places z) (sym h.sizes_are) l
+
   -- ---- the words that it takes
 
   module _ (f : ℕ) (rest : List ℕ) (is : m.pool ≡ f ∷ rest) where
@@ -56,16 +60,17 @@ module _ (m : State) (k : Memory) (h : Holds m k) (p a : ℕ) (low : p < places 
         let t = taken_honest m k h f rest is in
         let frames : k.head.frames ≡ m.sizes.frames = ap (λ (z : Sizes). z.frames) h.sizes_are in
         record {
-          place = rw h.sizes_are low;
-          start = rw h.sizes_are next.start_low;
-          top = rw h.sizes_are next.below;
+          place = below_places low;
+          start = below_places next.start_low;
+          top = below_places next.below;
           frame = omega (arith, t.0, t.1, frames);
         }
 
     pub mappable_honest : Long every_table m.sizes (lengths k) → Mappable k.head k.count k.table k.helper k.stack k.cache k.link a p
     mappable_honest lent =
         inside_mappable k p a (rw h.sizes_are h.sound.sizes_ok_lem) (rw h.sizes_are lent) inside_honest
-        (rw h.sizes_are (fit_top k.head k.count k.stack (places m.sizes) a (fits_honest m k h p a low absent f rest is)))
+        (subst (λ (z : Sizes). top_ok k.stack (places z) a (at k.count a) ≡ true) (sym h.sizes_are)
+        (fit_top k.head k.count k.stack (places m.sizes) a (fits_honest m k h p a low absent f rest is)))
 
   -- ---- the words after
 

@@ -1,0 +1,3 @@
+pub mod Mappable
+pub mod Bounds
+pub mod Mapping
