@@ -13,10 +13,10 @@ use Rattle.machine.specs.Machine.{places, place_of, State, Pair, is_start, regio
 use Rattle.machine.specs.Claims.{Sound, no_pair}
 use Rattle.machine.specs.Map.{Block, entry_of, block_of, blocks_in, part_in, map_words}
 use Rattle.machine.specs.MapRules.{entry_pages}
-use Rattle.machine.specs.Laws.Regions.{owner_of}
-use Rattle.machine.specs.Laws.Kept.{none_elsewhere}
-use Rattle.machine.specs.Laws.Records.{records_start, records_none}
-use Rattle.machine.specs.Laws.Map.Back.{blocks_of_lem}
+use Rattle.machine.proofs.Laws.Regions.{owner_of}
+use Rattle.machine.proofs.Laws.Kept.{none_elsewhere}
+use Rattle.machine.proofs.Laws.Records.{records_start, records_none}
+use Rattle.machine.proofs.Laws.Map.Back.{blocks_of_lem}
 use Rattle.memory.specs.Memory.{Memory}
 use Rattle.entries.specs.Models.{map_entry}
 use Rattle.filling.specs.Partial.{partial}

@@ -13,15 +13,15 @@ use Rattle.sequence.specs.Lists.{tabulate, length_tabulate, get_or_tabulate, tab
 use Rattle.sequence.specs.Sums.{sum, sum_at, hit, hit_same}
 use Rattle.machine.specs.Machine.{Sizes, places, State, Pair, region, frame_in, page_of, unmapped, with_pair, frames_of, Lent, every_table}
 use Rattle.machine.specs.Claims.{Sound, no_pair}
-use Rattle.machine.specs.Laws.Kept.{start_of_pair, start_below}
+use Rattle.machine.proofs.Laws.Kept.{start_of_pair, start_below}
 use Rattle.memory.specs.Memory.{Memory}
 use Rattle.promise.specs.Holds.{Holds}
 use Rattle.promise.specs.Within.{Within}
 use Rattle.laws.specs.Refusals.{Long}
 use Rattle.laws.specs.Room.{owned_below}
 use Rattle.entries.specs.Models.{map_entry}
-use Rattle.entries.specs.Bounds.{entry_within}
-use Rattle.entries.specs.Mapping.{entry_holds, inside_honest, mappable_honest}
+use Rattle.entries.proofs.Bounds.{entry_within}
+use Rattle.entries.proofs.Mapping.{entry_holds, inside_honest, mappable_honest}
 use Rattle.filling.specs.Partial.{held_so, frames_after, pool_so, partial}
 use Rattle.filling.specs.Filling.{CanMap}
 use Rattle.filling.specs.Stands.{Stands, Fills}

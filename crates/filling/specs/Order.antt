@@ -11,10 +11,10 @@ use Rattle.machine.specs.Machine.{places, place_of, State, Pair, is_start, regio
 use Rattle.machine.specs.Claims.{Sound}
 use Rattle.machine.specs.Map.{Entry, entry_of, block_of, map_words, file_words}
 use Rattle.machine.specs.MapRules.{entry_frames, entries_of, held_frames, all_frames}
-use Rattle.machine.specs.Laws.Sizes.{fit, some_places}
-use Rattle.machine.specs.Laws.Kept.{none_elsewhere}
-use Rattle.machine.specs.Laws.Records.{records_start, records_none}
-use Rattle.machine.specs.Laws.Map.Back.{blocks_of_lem, pool_back}
+use Rattle.machine.proofs.Laws.Sizes.{fit, some_places}
+use Rattle.machine.proofs.Laws.Kept.{none_elsewhere}
+use Rattle.machine.proofs.Laws.Records.{records_start, records_none}
+use Rattle.machine.proofs.Laws.Map.Back.{blocks_of_lem, pool_back}
 use Rattle.filling.specs.Partial.{frames_after, pool_so}
 
 module _ (m : State) where
