@@ -16,8 +16,8 @@ use Rattle.machine.specs.Machine.{places, State, is_start, region, begun, every_
 use Rattle.machine.specs.Claims.{Sound}
 use Rattle.machine.specs.Map.{file_words, map_words, blocks_in, part_in}
 use Rattle.machine.specs.MapRules.{entry_frames, entries_of, held_frames, all_frames}
-use Rattle.machine.specs.Laws.Sizes.{fit}
-use Rattle.machine.specs.Laws.Map.Frames.{frames_whole, frames_new, frames_many}
+use Rattle.machine.proofs.Laws.Sizes.{fit}
+use Rattle.machine.proofs.Laws.Map.Frames.{frames_whole, frames_new, frames_many}
 use Rattle.memory.specs.Memory.{Memory, memory, lengths, sizes_of}
 use Rattle.memory.specs.declared.Head.{Head}
 use Rattle.promise.specs.Holds.{Pooled, Holds}

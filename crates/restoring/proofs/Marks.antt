@@ -17,8 +17,8 @@ use Rattle.index.specs.Laws.{index_ext}
 use Rattle.machine.specs.Machine.{places, place_of, State, is_start, records, begun}
 use Rattle.machine.specs.Claims.{Sound}
 use Rattle.machine.specs.Map.{block_of, blocks_in, part_in, map_words}
-use Rattle.machine.specs.Laws.Records.{records_start, records_none}
-use Rattle.machine.specs.Laws.Map.Back.{blocks_of_lem}
+use Rattle.machine.proofs.Laws.Records.{records_start, records_none}
+use Rattle.machine.proofs.Laws.Map.Back.{blocks_of_lem}
 use Rattle.distinct.specs.Laws.{adding_append}
 use Rattle.founding.specs.Founding.{starts_of, starts_in, Marked}
 

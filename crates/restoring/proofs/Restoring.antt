@@ -1,14 +1,14 @@
 -- The three steps together, for any state that the file describes.
 use mathlib.Core.Path.{◌≡◌, refl, sym, ap, ◌∙◌, subst}
 use mathlib.Core.List.{List, [], ◌++◌}
-use Prim.Native.Nat.{ℕ, ◌+◌, ◌*◌, ◌≤◌, ◌<◌}
+use Prim.Native.Nat.{ℕ, ◌*◌, ◌≤◌, ◌<◌}
 use native.Mathlib.Omega.{arith}
 use lib.ListN.{length}
 use Rattle.words.specs.Words.{words_in}
 use Rattle.machine.specs.Machine.{Sizes, places, State}
 use Rattle.machine.specs.Map.{file_words, map_words, part_in}
 use Rattle.machine.specs.MapRules.{held_frames, all_frames}
-use Rattle.machine.specs.Laws.Sizes.{fit}
+use Rattle.machine.proofs.Laws.Sizes.{fit}
 use Rattle.memory.specs.Memory.{Memory, memory}
 use Rattle.memory.specs.declared.Head.{Head}
 use Rattle.promise.specs.Holds.{Holds}

@@ -5,9 +5,9 @@ use Rattle.words.specs.Words.{words_in}
 use Rattle.machine.specs.Machine.{begun, every_table}
 use Rattle.machine.specs.Map.{sizes_in, state_in}
 use Rattle.machine.specs.MapRules.{rules_ok}
-use Rattle.machine.specs.Laws.Map.Rules.{rules_of}
-use Rattle.machine.specs.Laws.Map.Exact.{read_write}
-use Rattle.machine.specs.Laws.Map.Sounds.{rules_sound}
+use Rattle.machine.proofs.Laws.Map.Rules.{rules_of}
+use Rattle.machine.proofs.Laws.Map.Exact.{read_write}
+use Rattle.machine.proofs.Laws.Map.Sounds.{rules_sound}
 use Rattle.memory.specs.Memory.{Memory, lengths}
 use Rattle.promise.specs.Holds.{Holds}
 use Rattle.laws.specs.Refusals.{Long}

@@ -1,4 +1,6 @@
 // Restoring a state from its map file, in memory just started with the file's sizes.
+#![tactic(auto)]
+
 ghost use Rattle.machine.specs.Machine.{State};
 ghost use Rattle.memory.specs.Memory.{memory};
 ghost use Rattle.promise.specs.Holds.{Holds};
