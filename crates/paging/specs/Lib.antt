@@ -1,4 +1,2 @@
 pub mod Fits
 pub mod Models
-pub mod Touching
-pub mod Touches

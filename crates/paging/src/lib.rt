@@ -1,5 +1,7 @@
 // What a touch does to the tables once its checks have passed: a resident page answers its frame, an absent one is mapped to the pool's
 // first. The frame of a new page is the caller's to clear: a write need not clear what it is about to store over.
+#![tactic(auto)]
+
 ghost use Rattle.std.specs.Prelude.{◌≡◌, List, ℕ};
 ghost use Rattle.machine.specs.Machine as machine;
 ghost use Rattle.machine.specs.Answers.{touched_says};

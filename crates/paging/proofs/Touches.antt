@@ -7,7 +7,8 @@ use Rattle.machine.specs.declared.PageCall.TheVariants.{Touch}
 use Rattle.machine.specs.declared.Touched.{Touched}
 use Rattle.machine.specs.declared.Touched.TheVariants as touched_is
 use Rattle.machine.specs.Answers.{touched_says}
-use Rattle.machine.specs.Machine.{Sizes, places, place_of, Lent, every_table, touch, asked, Answer, old, new, refused_after, zeroed}
+use Rattle.machine.specs.Machine.{Sizes, places, place_of, Lent, every_table, touch, asked, Answer, old, new, refused_after, refusal_of, zeroed}
+use Rattle.machine.specs.Machine as machine
 use Rattle.memory.specs.Memory.{Memory, memory, sizes_of, lengths}
 use Rattle.memory.specs.declared.Head.{Head}
 use Rattle.pool.specs.declared.Taken.{Taken}
@@ -15,21 +16,21 @@ use Rattle.lookup.specs.declared.Sight.TheVariants as sight_is
 use Rattle.planning.specs.declared.Plan.{Plan}
 use Rattle.planning.specs.declared.Plan.TheVariants as plan_is
 use Rattle.promise.specs.Did.{Did}
-use Rattle.promise.specs.Refuses.{own_answer}
+use Rattle.promise.proofs.Refuses.{own_answer}
 use Rattle.laws.specs.Models.{check_of, every_length}
 use Rattle.planning.specs.Fits.{Planned}
-use Rattle.planning.specs.Planning.{new_inside, plan_maps, fit_top}
-use Rattle.paging.specs.Models.{plan_says, plan_leaves}
+use Rattle.planning.proofs.Planning.{new_inside, plan_maps, fit_top}
+use Rattle.paging.specs.Models.{plan_says, plan_leaves, Touches}
 use Rattle.lookup.specs.Models.{SeenAt}
 use Rattle.laws.specs.Checking as checking
 use Rattle.laws.specs.Passing.{page_passes}
 use Rattle.laws.specs.Checks.{page_check}
 use Rattle.laws.specs.Told.{early_refused}
-use Rattle.paging.specs.Touching.{touch_did}
+use Rattle.paging.proofs.Touched.{touch_did}
 use Rattle.promise.specs.Shown.{frame_of}
-use Rattle.lookup.specs.Sights.{frame_seen, lookable, still_ready, ready_long}
+use Rattle.lookup.proofs.Sights.{frame_seen, lookable, still_ready, ready_long}
 use Rattle.entries.specs.Fits.{Mappable, Mapped}
-use Rattle.entries.specs.Mappable.{inside_mappable}
+use Rattle.entries.proofs.Mappable.{inside_mappable}
 use Rattle.paging.specs.Fits.{Touchable, RamLong}
 
 -- ---- a touch that passed the checks
@@ -91,7 +92,7 @@ module _ (h : Head) (i b : ℕ) (index count table helper stack cache link : Lis
     touched : (a : Answer) (k' : Memory) → (a ≡ plan_says r before) × (k' ≡ plan_leaves r before (place_of (sizes_of h) i b)) → Did (touch i b) before a k'
     touched a k' (says, leaves) =
         touch_did i b before a k'
-        (checking.checked_yes _ _ 0 _ before k' a (sym (page_check before i b Touch (every_length before) refl ∙ passes ram long)) refl
+        (checking.checked_yes (refusal_of machine.touched) _ 0 (Touches before i b) before k' a (sym (page_check before i b Touch (every_length before) refl ∙ passes ram long)) refl
         (record { sight = planned.sight; seen = planned.seen; answer_is = rw planned.is at says; after_is = rw planned.is at leaves }))
 
     pub did_old : (f : ℕ) → r ≡ plan_is.Old f → Did (touch i b) before (old f) before
