@@ -10,7 +10,7 @@ use Rattle.memory.specs.Memory.{at}
 use Rattle.memory.specs.declared.Head.{Head}
 use Rattle.releasing.specs.declared.Cut.TheVariants.{Empty, At, Refused}
 use Rattle.releasing.specs.Models.{cut_ok, cut_if}
-use Rattle.releasing.specs.Releasing.{Cuttable, cut_says_lem}
+use Rattle.releasing.proofs.Releasing.{Cuttable, cut_says_lem}
 
 -- ---- the test
 

@@ -1,2 +1,3 @@
+pub mod Releasing
 pub mod Cutting
 pub mod Releases

@@ -9,7 +9,7 @@ use lib.Dec.{ltb}
 use lib.ListN.{length}
 use Rattle.layer.specs.Words.{bit_at}
 use Rattle.machine.specs.Machine.{places, place_of, sizes_ok, release, Answer, pages, refused}
-use Rattle.machine.specs.Laws.Sizes.{fit, place_below}
+use Rattle.machine.proofs.Laws.Sizes.{fit, place_below}
 use Rattle.memory.specs.Memory.{Memory, memory, at, sizes_of}
 use Rattle.memory.specs.declared.Head.{Head}
 use Rattle.memory.specs.declared.Lengths.{Lengths}
@@ -22,7 +22,7 @@ use Rattle.releasing.specs.Models.{cut_ok, cut_if, cut_for, cut_says, cut_leaves
 use Rattle.laws.specs.Checking as checking
 use Rattle.laws.specs.Refusals.{check_passes}
 use Rattle.extent.specs.Passing.{passed, word_lent}
-use Rattle.releasing.specs.Releasing.{cut_says_lem, release_did}
+use Rattle.releasing.proofs.Releasing.{cut_says_lem, release_did}
 use Rattle.pool.specs.Takes.{Top}
 use Rattle.releasing.specs.Cuts.{Spliceable, Splices, CutOfIf, CutOf}
 

@@ -1,4 +1,6 @@
 // Releasing a region: one resident count and one frame link, however large the region.
+#![tactic(auto)]
+
 ghost use Rattle.std.specs.Prelude.{◌≡◌, List, ℕ, ◌+◌, ◌<◌, ◌≤◌, length};
 ghost use Rattle.machine.specs.Machine as machine;
 ghost use Rattle.machine.specs.Answers.{released_says};
@@ -12,7 +14,7 @@ use machine::Released;
 use memory::{ANY, Head, Lengths, ReleaseOut};
 
 // What a release is to do: nothing for an empty region; give back the pages of the one at a place.
-#[derive(Drop)]
+#[derive(Clone, Copy)]
 pub enum Cut {
     Empty,
     At(usize),
@@ -20,7 +22,7 @@ pub enum Cut {
 }
 
 // The pages given back, and the head with their frames.
-#[derive(Drop)]
+#[derive(Clone, Copy)]
 pub struct Spliced {
     pub pages: u32,
     pub head: Head,

@@ -14,9 +14,9 @@ use Rattle.machine.specs.declared.PageCall.TheVariants.{Release}
 use Rattle.machine.specs.Machine.{Sizes, places, place_of, State, Pair, is_start, region, frames_of, emptied, release_at, release, uses, asked, Answer, pages}
 use Rattle.machine.specs.Machine.{refused, step, accepted, answer, after}
 use Rattle.machine.specs.Claims.{no_pair, times_in}
-use Rattle.machine.specs.Laws.Sizes.{both}
-use Rattle.machine.specs.Laws.Kept.{start_of_pair, start_below, sound_emptied}
-use Rattle.machine.specs.Laws.Holders.{frame_below}
+use Rattle.machine.proofs.Laws.Sizes.{both}
+use Rattle.machine.proofs.Laws.Kept.{start_of_pair, start_below, sound_emptied}
+use Rattle.machine.proofs.Laws.Holders.{frame_below}
 use Rattle.memory.specs.Memory.{Memory, at, sizes_of, lengths}
 use Rattle.memory.specs.declared.Head.{Head}
 use Rattle.promise.specs.Holds.{Placed, Pooled, unused, Holds}
@@ -104,7 +104,7 @@ module _ (m : State) (k : Memory) (H : Holds m k) (a : ℕ) (x : Pair) (xs : Lis
   cut_honest =
       let j = length xs in
       let end : a + at k.count a - 1 ≡ a + j = omega (arith, counted, n_is) in
-      rw H.sizes_are
+      rw (ap places H.sizes_are)
       (says_cut k.head k.table k.stack (places m.sizes) a (at k.count a)
       (record {
         room = omega (arith, counted, n_is, owned_below m H.sound (a + j) a (H.entries a j (omega (arith, n_is))).room);
@@ -218,7 +218,7 @@ module _ (k : Memory) (i b : ℕ) (e : asked (sizes_of k.head) (release i b (len
   out_is : (m : State) → Holds m k → (v : Bool) → bit_at k.index a₀ ≡ v → step m (release i b (lengths k)) ≡ release_at m a₀ v
   unfolding accepted
   out_is m H v is =
-      let ix : IndexOf (places z) (is_start m) k.index = rw H.sizes_are H.index_is in
+      let ix : IndexOf (places z) (is_start m) k.index = rw (ap places H.sizes_are) H.index_is in
       passed_step m (release i b (lengths k)) (ap (λ y. asked y (release i b (lengths k))) (sym H.sizes_are) ∙ e)
       ∙ ap (λ y. release_at m (place_of y i b) (is_start m (place_of y i b))) (sym H.sizes_are)
       ∙ ap (release_at m a₀) (sym (index_bit (places z) (is_start m) k.index ix a₀ known.place) ∙ is)
