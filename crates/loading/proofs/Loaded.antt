@@ -2,7 +2,7 @@
 use mathlib.Core.Path.{◌≡◌, refl, sym, ap, ◌∙◌, subst}
 use mathlib.Core.Bool.{Bool, true, false, false≢true}
 use mathlib.Core.List.{List, [], ◌++◌}
-use Prim.Native.Nat.{ℕ, ◌*◌, ◌≤◌, ◌%◌}
+use Prim.Native.Nat.{ℕ, ◌≤◌, ◌%◌}
 use native.Mathlib.Omega.{arith}
 use lib.Dec.{eqb}
 use lib.ListN.{length, drop as dropped, replicate, length-append, length-drop, length-replicate}
@@ -13,9 +13,9 @@ use Rattle.index.specs.Laws.{length_index}
 use Rattle.words.specs.Words.{words_in}
 use Rattle.machine.specs.Machine.{Sizes, places, sizes_ok, State, begun, Lent, every_table, read_map, Answer, done, refused}
 use Rattle.machine.specs.Map.{sizes_in, state_in}
-use Rattle.machine.specs.MapRules.{rules_ok, file_ok}
-use Rattle.machine.specs.MapTheorems.{file_contents}
-use Rattle.machine.specs.Laws.Sizes.{both}
+use Rattle.machine.specs.MapRules.{file_ok}
+use Rattle.machine.proofs.MapTheorems.{file_contents}
+use Rattle.machine.proofs.Laws.Sizes.{both}
 use Rattle.memory.specs.Memory.{Memory, memory, sizes_of, lengths}
 use Rattle.memory.specs.declared.Head.{Head}
 use Rattle.promise.specs.Holds.{Holds}
@@ -25,7 +25,8 @@ use Rattle.laws.specs.Models.{check_of, table_lengths}
 use Rattle.laws.specs.Refusals.{Long}
 use Rattle.laws.specs.Checking.{ready}
 use Rattle.starting.specs.Steps.{Beginnable, BeginsAs}
-use Rattle.starting.specs.Starting.{Begun, begun_as, begun_stands}
+use Rattle.starting.proofs.Starting.{Begun, begun_as}
+use Rattle.starting.proofs.Stands.{begun_stands}
 use Rattle.judging.specs.Bodied.{file_bodied}
 use Rattle.judging.specs.Contents.{ContentsAre}
 use Rattle.judging.specs.declared.Contents.{Contents}

@@ -1,15 +1,14 @@
 -- Reading a map keeps the promise: refused before anything is stored, or the memory stands for the state in the file.
 use Rattle.std.specs.Prelude.{◌≡◌, refl, Bool, true, false, List, [], ℕ, zero, suc, length, drop as dropped}
-use Rattle.std.proofs.Common.{sym, ap, ◌∙◌, subst, arith}
+use Rattle.std.proofs.Common.{sym, ap, ◌∙◌, subst}
 use Rattle.std.proofs.lemmas.Bool.{false≢true}
-use Rattle.std.proofs.Math.Option.{Option, some}
+use Rattle.std.proofs.Math.Option.{Option}
 use Rattle.sequence.specs.Changes.{changed_front}
-use Rattle.places.specs.Places.{size}
 use Rattle.words.specs.Words.{words_in}
-use Rattle.machine.specs.Machine.{Sizes, places, State, with_ram, Lent, read_map, file_first, asked, Answer, done, refused, Out}
+use Rattle.machine.specs.Machine.{Sizes, State, read_map, file_first, asked, done, refused, Out}
 use Rattle.machine.specs.Map.{sizes_in, state_in}
-use Rattle.machine.specs.MapRules.{contents_ok, file_ok, described}
-use Rattle.machine.specs.Laws.Calls.{begins_so, map_described}
+use Rattle.machine.specs.MapRules.{contents_ok, file_ok}
+use Rattle.machine.proofs.Laws.Calls.{begins_so, map_described}
 use Rattle.memory.specs.Memory.{Memory, sizes_of, lengths}
 use Rattle.memory.specs.declared.Head.{Head}
 use Rattle.promise.specs.Holds.{Holds}

@@ -9,7 +9,7 @@ use Rattle.memory.specs.declared.Head.{Head}
 use Rattle.promise.specs.Holds.{Holds}
 use Rattle.promise.specs.Did.{Refills}
 use Rattle.laws.specs.Refusals.{Long}
-use Rattle.starting.specs.Starting.{Unused}
+use Rattle.starting.specs.Steps.{Unused}
 
 -- the file is a map of the head's sizes, and the tables are long enough for them
 pub record Loadable (file : List ℕ) (h : Head) (index count table helper stack cache link : List ℕ) : Type 0 where

@@ -1,4 +1,6 @@
 // Reading a map file into tables that may hold anything: the file is judged whole before a word is stored, then its state begun and filled.
+#![tactic(auto)]
+
 ghost use Rattle.std.specs.Prelude.{◌≡◌, List, ℕ};
 ghost use Rattle.machine.specs.Machine as machine;
 ghost use Rattle.machine.specs.Answers.{done_says};
