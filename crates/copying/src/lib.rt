@@ -1,5 +1,7 @@
 // A copy at memory speed. Two copies by way of a local page tell the compiler that nothing overlaps, and
 // become one memmove (tests/object holds the object code to it).
+#![tactic(auto)]
+
 ghost use Rattle.std.specs.Prelude.{◌≡◌, ◌++◌, ◌≤◌, length, drop};
 
 // Copies src to the front of dst, by way of page.
@@ -7,8 +9,9 @@ fn via(src: &[u8], page: &mut [u8], dst: &mut [u8])
     requires { (length src.now ≤ length page.old) × (length src.now ≤ length dst.old) }
     ensures { dst.new ≡ src.now ++ drop (length src.now) dst.old }
 {
-    let n = bytes::copy(src, page);
-    bytes::copy(&page[..n], dst);
+    let n = src.len();
+    page[..n].copy_from_slice(src);
+    dst[..n].copy_from_slice(&page[..n]);
 }
 
 // A page of which only the length is known, so that its zeros need not be written.
