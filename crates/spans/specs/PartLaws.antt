@@ -8,7 +8,7 @@ use Rattle.std.proofs.lemmas.List.Edits.{sets, sets-eq}
 use Rattle.places.specs.Laws.{div_mono}
 use Rattle.machine.specs.Machine.{Sizes, span_pages}
 use Rattle.machine.specs.Claims.{Address}
-use Rattle.machine.specs.Laws.Sizes.{fit}
+use Rattle.machine.proofs.Laws.Sizes.{fit}
 use Rattle.memory.specs.Memory.{sizes_of}
 use Rattle.memory.specs.declared.Head.{Head}
 use Rattle.laws.specs.Parts.{same_page}

@@ -4,7 +4,7 @@ use Rattle.std.proofs.Common.{ap, ◌∙◌, mod-eq_of_lt, mod-lt, div-le_self, 
 use Rattle.places.specs.Laws.{div_mono, one_shifted}
 use Rattle.machine.specs.Machine.{sizes_ok, space_bytes, span_pages}
 use Rattle.machine.specs.Answers.{size_of}
-use Rattle.machine.specs.Laws.Sizes.{fit, some_bytes}
+use Rattle.machine.proofs.Laws.Sizes.{fit, some_bytes}
 use Rattle.memory.specs.Memory.{sizes_of}
 use Rattle.memory.specs.declared.Head.{Head}
 use Rattle.checks.specs.Shifts.{shift_fits}

@@ -1,4 +1,6 @@
 // Addresses and spans of a head whose sizes are within their limits: pages, parts of pages, places in RAM.
+#![tactic(auto)]
+
 ghost use Rattle.std.specs.Prelude.{◌≡◌, true, ◌+◌, ◌-◌, ◌/◌, ◌%◌, ◌<◌, ◌≤◌, min, length};
 ghost use Rattle.machine.specs.Machine.{sizes_ok, space_bytes, places, page_of_address, span_pages};
 ghost use Rattle.machine.specs.Claims.{Address};
