@@ -5,7 +5,7 @@ use Rattle.std.proofs.lemmas.List.{length-replicate}
 use Rattle.std.proofs.lemmas.List.Edits.{sets}
 use Rattle.std.proofs.Math.Seq.{length-sets}
 use Rattle.machine.specs.Machine.{Sizes}
-use Rattle.machine.specs.Laws.Zeroed.{sets_out, sets_zero, frame_apart}
+use Rattle.machine.proofs.Laws.Zeroed.{sets_out, sets_zero, frame_apart}
 use Rattle.clearing.specs.Clears.{zeroed_around}
 
 module _ (z : Sizes) (f x n : ℕ) (ram : List ℕ) (fits : x % z.page + n ≤ z.page) where

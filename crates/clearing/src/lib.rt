@@ -1,5 +1,7 @@
 // The bytes of a frame set to 0, all of them or those around a part that is stored over. The fill is a plain loop, which becomes one memset
 // (tests/object holds the object code to it).
+#![tactic(auto)]
+
 ghost use Rattle.std.specs.Prelude.{◌≡◌, ◌+◌, ◌-◌, ◌%◌, ◌≤◌, ◌<◌, length, replicate};
 ghost use Rattle.std.proofs.lemmas.List.Edits.{sets};
 ghost use Rattle.machine.specs.Machine.{zeroed};
