@@ -1,4 +1,6 @@
 // Touching a page: the checks, what they let through, and a new page's frame cleared.
+#![tactic(auto)]
+
 ghost use Rattle.std.specs.Prelude.{◌≡◌, ℕ};
 ghost use Rattle.machine.specs.Machine as machine;
 ghost use Rattle.machine.specs.declared.Touched.TheVariants.{New};
