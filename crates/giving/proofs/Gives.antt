@@ -8,7 +8,7 @@ use lib.Dec.{ltb}
 use Rattle.machine.specs.declared.PageCall.TheVariants.{GiveBack}
 use Rattle.machine.specs.Machine.{places, place_of, give_back, refused}
 use Rattle.machine.specs.Answers.{given_back_says}
-use Rattle.machine.specs.Laws.Sizes.{fit, place_below}
+use Rattle.machine.proofs.Laws.Sizes.{fit, place_below}
 use Rattle.memory.specs.Memory.{Memory, memory, sizes_of}
 use Rattle.memory.specs.declared.Head.{Head}
 use Rattle.memory.specs.declared.GiveBackOut.{GiveBackOut}
@@ -16,16 +16,16 @@ use Rattle.lookup.specs.declared.Sight.{Sight}
 use Rattle.lookup.specs.declared.Sight.TheVariants.{Mapped}
 use Rattle.lookup.specs.Ready.{Ready, SeenOf}
 use Rattle.lookup.specs.Lookup.{resident_agrees}
-use Rattle.lookup.specs.Looking.{seen_frame}
-use Rattle.lookup.specs.Sights.{lookable}
+use Rattle.lookup.proofs.Looking.{seen_frame}
+use Rattle.lookup.proofs.Sights.{lookable}
 use Rattle.promise.specs.Did.{Did}
 use Rattle.laws.specs.Models.{check_of, table_lengths}
 use Rattle.laws.specs.Checking as checking
 use Rattle.laws.specs.Checks.{page_check}
 use Rattle.laws.specs.Told.{early_refused}
-use Rattle.giving.specs.Models.{leave_ok, leave_ok_in, refused_out, give_says, give_leaves}
+use Rattle.giving.specs.Models.{leave_ok, leave_ok_in, refused_out, give_says, give_leaves, Gives}
 use Rattle.giving.specs.Fits.{Seated, HandedIf, Handed}
-use Rattle.giving.specs.Giving.{give_did}
+use Rattle.giving.proofs.Giving.{give_did}
 
 module _ (h : Head) (i b : ℕ) (index count table helper stack cache link : List ℕ) where
   -- the number of the code's check
@@ -90,8 +90,11 @@ module _ (h : Head) (i b : ℕ) (index count table helper stack cache link : Lis
           Did (give_back i b) k (give_says s (leave_ok_in k p)) (give_leaves s (leave_ok_in k p) k p)
       gives ram =
           let k = memory h index count table helper stack cache link ram in
-          give_did i b k _ _
-          (checking.checked_yes _ _ 0 _ k _ _ (sym passes) refl (record { sight = s; seen = seen; answer_is = refl; after_is = refl }))
+          let p = place_of (sizes_of h) i b in
+          let a = give_says s (leave_ok_in k p) in
+          let k' = give_leaves s (leave_ok_in k p) k p in
+          give_did i b k a k'
+          (checking.checked_yes refused _ 0 (Gives k i b) k k' a (sym passes) refl (record { sight = s; seen = seen; answer_is = refl; after_is = refl }))
 
       pub give_refused : (n : ℕ) (r : GiveBackOut) → r ≡ refused_out h n
           → ((ok : Bool) → give_says s ok ≡ refused n)

@@ -12,7 +12,7 @@ use Rattle.memory.specs.declared.Head.{Head}
 use Rattle.memory.specs.declared.GiveBackOut.{GiveBackOut}
 use Rattle.giving.specs.Models.{leave_ok_at, leave_ok, relinked, refused_out}
 use Rattle.giving.specs.Fits.{Seated, Mendable, Leavable, Leaves, HandedIf, Handed}
-use Rattle.giving.specs.Giving.{leave_says}
+use Rattle.giving.proofs.Giving.{leave_says}
 
 -- i' and n' are the positions, q is the newest page
 module _ (link table stack : List ℕ) (a i n i' n' q : ℕ) (ei : i' ≡ i) (en : n' ≡ n) (eq : q ≡ at stack (a + n)) (f : ℕ) where

@@ -1,3 +1,6 @@
+pub mod Chain
+pub mod Holding
+pub mod Giving
 pub mod Tests
 pub mod Leaving
 pub mod Gives

@@ -1,4 +1,6 @@
 // Handing one page back, in constant time: the region's newest page takes its position, and its frame goes to the pool's front.
+#![tactic(auto)]
+
 ghost use Rattle.std.specs.Prelude.{◌≡◌, List, ℕ, ◌+◌, ◌<◌, ◌≤◌, ltb, length};
 ghost use Rattle.machine.specs.Machine as machine;
 ghost use Rattle.machine.specs.Answers.{given_back_says};

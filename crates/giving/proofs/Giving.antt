@@ -9,27 +9,27 @@ use Rattle.machine.specs.declared.PageCall.TheVariants.{GiveBack}
 use Rattle.machine.specs.Machine.{Sizes, places, place_of, State, no_pair, region, page_of, every_table, give_back, asked}
 use Rattle.machine.specs.Machine.{page_given_back, Answer, handed, refused, tell, index_in, give_back_page, accepted, step, answer, after}
 use Rattle.machine.specs.Claims.{is_refused}
-use Rattle.machine.specs.Laws.Sizes.{both}
-use Rattle.machine.specs.Laws.Lookup.{Mapped, is_mapped, mapped_is}
-use Rattle.machine.specs.Laws.Holders.{frame_below}
-use Rattle.machine.specs.Laws.Handed.{stands, region_long}
+use Rattle.machine.proofs.Laws.Sizes.{both}
+use Rattle.machine.proofs.Laws.Lookup.{Mapped, is_mapped, mapped_is}
+use Rattle.machine.proofs.Laws.Holders.{frame_below}
+use Rattle.machine.proofs.Laws.Handed.{stands, region_long}
 use Rattle.memory.specs.Memory.{Memory, at, sizes_of, lengths}
 use Rattle.memory.specs.declared.Head.{Head}
 use Rattle.lookup.specs.declared.Sight.{Sight}
 use Rattle.lookup.specs.declared.Sight.TheVariants as sight_is
 use Rattle.lookup.specs.Models.{SeenAt}
 use Rattle.lookup.specs.Lookup.{Agrees, resident_agrees, SightIs, seen_honest}
-use Rattle.lookup.specs.Looking.{seen_frame}
+use Rattle.lookup.proofs.Looking.{seen_frame}
 use Rattle.promise.specs.Holds.{Holds}
 use Rattle.promise.specs.Did.{Among, Words, Did}
-use Rattle.promise.specs.Refuses.{words_then}
+use Rattle.promise.proofs.Refuses.{words_then}
 use Rattle.laws.specs.Models.{table_lengths}
 use Rattle.laws.specs.Refusals.{Long, words_none, words_set, bounds_none, Admitted, admitted, checked_did, passed_step}
 use Rattle.laws.specs.Checks.{page_check}
 use Rattle.laws.specs.Room.{owned_below}
 use Rattle.pool.specs.Pool.{many_fit}
 use Rattle.giving.specs.Models.{pair_ok, neighbour_ok, leave_ok_at, leave_ok_in, relinked, left, give_says, give_leaves, GiveDone}
-use Rattle.giving.specs.Holding.{start_word_lem, position_word, last_word, holds_handed}
+use Rattle.giving.proofs.Holding.{start_word_lem, position_word, last_word, holds_handed}
 
 -- ---- the code's test
 
@@ -113,7 +113,7 @@ module _ (m : State) (k : Memory) (H : Holds m k) (lent : Long every_table m.siz
       let long = region_long m H.sound p a f there in
       let n = length (region m a) - 1 in
       let i = index_in p (region m a) in
-      rw (H.sizes_are, start_word_lem m k H lent p a f there, position_word m k H lent p a f there, last_word m k H lent p a f there)
+      rw (ap places H.sizes_are, start_word_lem m k H lent p a f there, position_word m k H lent p a f there, last_word m k H lent p a f there)
       (says_leave k.head k.table k.stack (places m.sizes) a i n
       (record {
         top = owned_below m H.sound (a + n) a (H.entries a n (omega (arith, long))).room;

@@ -4,7 +4,7 @@ use Rattle.std.proofs.Common.{sym, ap, ◌∙◌, not-suc-le-zero, arith, lt-ltb
 use Rattle.std.proofs.Math.Decide.{ℕ_discrete, dec_lt}
 use Rattle.std.proofs.Math.Seq.{take-length}
 use Rattle.machine.specs.Machine.{Pair, no_pair, frames_of, without_of}
-use Rattle.machine.specs.Laws.Handed.{length_without, without_here, without_there}
+use Rattle.machine.proofs.Laws.Handed.{length_without, without_here, without_there}
 use Rattle.memory.specs.Memory.{at}
 use Rattle.promise.specs.Holds.{Chain, Linked}
 use Rattle.pool.specs.Pool.{frames_snoc}

@@ -6,11 +6,11 @@ use Rattle.std.proofs.Math.Decide.{ℕ_discrete}
 use Rattle.sequence.specs.Sums.{sum, sum_append, sum_two, sum_at, hit, hit_same}
 use Rattle.machine.specs.Machine.{places, State, Pair, no_pair, region, start_of, frames_of, every_table, index_in, without, handed_back}
 use Rattle.machine.specs.Claims.{Sound, times_in}
-use Rattle.machine.specs.Laws.Lookup.{Mapped}
-use Rattle.machine.specs.Laws.Kept.{start_of_pair, start_below}
-use Rattle.machine.specs.Laws.Holders.{frame_below}
-use Rattle.machine.specs.Laws.Handed.{Stands, stands, region_long, at_most, region_here, region_there, length_without, without_here, without_there, sum_without}
-use Rattle.machine.specs.Laws.Handed.{sound_handed}
+use Rattle.machine.proofs.Laws.Lookup.{Mapped}
+use Rattle.machine.proofs.Laws.Kept.{start_of_pair, start_below}
+use Rattle.machine.proofs.Laws.Holders.{frame_below}
+use Rattle.machine.proofs.Laws.Handed.{Stands, stands, region_long, at_most, region_here, region_there, length_without, without_here, without_there, sum_without}
+use Rattle.machine.proofs.Laws.Handed.{sound_handed}
 use Rattle.memory.specs.Memory.{Memory, at, lengths}
 use Rattle.promise.specs.Holds.{Placed, Chain, Linked, Pooled, unused, Holds}
 use Rattle.pool.specs.Chains.{chain_kept, linked_kept}
@@ -18,7 +18,7 @@ use Rattle.pool.specs.Pool.{newest_first, times_newest, pool_or_region, one_regi
 use Rattle.laws.specs.Refusals.{Long}
 use Rattle.laws.specs.Room.{owned_below}
 use Rattle.giving.specs.Models.{relinked, left_by, left}
-use Rattle.giving.specs.Chain.{frame_at, Steps, Apart, steps_linked, linked_steps, steps_without}
+use Rattle.giving.proofs.Chain.{frame_at, Steps, Apart, steps_linked, linked_steps, steps_without}
 
 -- ---- the links are changed at frames that a list hasn't
 
