@@ -9,7 +9,7 @@ use Rattle.machine.specs.Machine.{refused, tell, absence, translate_page, accept
 use Rattle.machine.specs.Answers.{looked_says}
 use Rattle.machine.specs.declared.Looked.{Looked}
 use Rattle.machine.specs.declared.Looked.TheVariants.{Resident}
-use Rattle.machine.specs.Laws.Sizes.{both, fit, some_bytes, page_below}
+use Rattle.machine.proofs.Laws.Sizes.{both, fit, some_bytes, page_below}
 use Rattle.memory.specs.Memory.{Memory, sizes_of, lengths}
 use Rattle.promise.specs.Holds.{Holds}
 use Rattle.promise.specs.Did.{Later, Did}
@@ -21,7 +21,7 @@ use Rattle.laws.specs.Spans.{address_inside}
 use Rattle.laws.specs.SpanChecks.{translate_check}
 use Rattle.laws.specs.Found.{looked_later, Found, address_found, residence, RefusedAs, refused_later, refused_is}
 use Rattle.lookup.specs.Ready.{Ready}
-use Rattle.lookup.specs.Sights.{not_lent, lookable, ready_long, look_asked}
+use Rattle.lookup.proofs.Sights.{not_lent, lookable, ready_long, look_asked}
 use Rattle.translating.specs.Ready.{Translatable}
 
 -- the page of a refusal
@@ -90,7 +90,7 @@ module _ (i x : ℕ) (k : Memory) where
       pub translate_refused : (n : ℕ) → RefusedAs found n → Did (translate i x) k (refused n) k
       unfolding accepted
       translate_refused n e =
-          let given = refused_later z i _ (lengths k) found n e later in
+          let given = refused_later z i (x / z.page) (lengths k) found n e later in
           told_did (translate i x) k (refused n) translate_passes (given, refl) (tt, tt)
           (λ m h. ap (tell m) (translate_absent m.sizes x (page_of m (page_of_address m.sizes i x)) n
           (from_four _ _ _ n (omega arith) (omega arith) (omega arith) given) (refused_is m _ found n e (honest m h)).0))

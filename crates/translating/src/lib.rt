@@ -1,4 +1,6 @@
 // The place in RAM of an address: its page's frame, by the page's look, and the offset.
+#![tactic(auto)]
+
 ghost use Rattle.std.specs.Prelude.{List, ℕ};
 ghost use Rattle.machine.specs.Machine as machine;
 ghost use Rattle.machine.specs.Answers.{translated_says};
