@@ -11,7 +11,7 @@ use lib.ListN.{length}
 use Rattle.sequence.specs.Tests.{failed, held}
 use Rattle.extent.specs.Sizes.{lowest_size}
 use Rattle.machine.specs.Machine.{places, sizes_ok, first_refusal}
-use Rattle.machine.specs.Laws.Sizes.{both, fit}
+use Rattle.machine.proofs.Laws.Sizes.{both, fit}
 use Rattle.machine.specs.declared.MapWritten.TheVariants.{Bytes, Refused}
 use Rattle.memory.specs.Memory.{Memory, sizes_of}
 use Rattle.promise.specs.Did.{frames_left}

@@ -1,3 +1,5 @@
+pub mod Honest
+pub mod Promise
 pub mod Tallying
 pub mod Regions
 pub mod Spaces

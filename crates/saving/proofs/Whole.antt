@@ -11,7 +11,7 @@ use Rattle.sequence.specs.Lists.{tabulate}
 use Rattle.sequence.specs.Sums.{sum_from}
 use Rattle.machine.specs.Machine.{places, sizes_ok}
 use Rattle.machine.specs.Map.{bodies, first_body}
-use Rattle.machine.specs.Laws.Sizes.{both, fit}
+use Rattle.machine.proofs.Laws.Sizes.{both, fit}
 use Rattle.memory.specs.Memory.{Memory, sizes_of}
 use Rattle.memory.specs.declared.Head.{Head}
 use Rattle.promise.specs.Did.{frames_left}

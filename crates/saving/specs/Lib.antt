@@ -3,5 +3,3 @@ pub mod Storing
 pub mod Steps
 pub mod Sizes
 pub mod Asked
-pub mod Honest
-pub mod Promise

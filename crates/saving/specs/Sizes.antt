@@ -12,8 +12,8 @@ use Rattle.sequence.specs.Lists.{suc_across, tabulate, length_tabulate}
 use Rattle.sequence.specs.Sums.{sum, sum_from, sum_blocks}
 use Rattle.layer.specs.Words.{bit_at}
 use Rattle.machine.specs.Map.{Block, Part, rows, bodies, first_body, file_words}
-use Rattle.machine.specs.Laws.Map.Contents.{length_rows}
-use Rattle.machine.specs.Laws.Map.Length.{length_body}
+use Rattle.machine.proofs.Laws.Map.Contents.{length_rows}
+use Rattle.machine.proofs.Laws.Map.Length.{length_body}
 use Rattle.memory.specs.Memory.{Memory, at, sizes_of}
 use Rattle.memory.specs.declared.Head.{Head}
 use Rattle.promise.specs.Did.{frames_left}

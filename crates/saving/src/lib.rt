@@ -1,6 +1,8 @@
 // The map file of document 02, W-202, written from the tables. A first pass counts what there is to write; only then
 // is anything stored, word after word, so that a refusal leaves the file's buffer. Damaged tables are written as they
 // stand: a word past a table's end counts as 0.
+#![tactic(auto)]
+
 ghost use Rattle.std.specs.Prelude.{◌≡◌, true, ◌&&◌, List, [], ◌∷◌, ℕ, ◌+◌, ◌-◌, ◌*◌, ◌≤◌, ◌<◌, eqb, leb, length};
 ghost use Rattle.sequence.specs.Lists.{tabulate};
 ghost use Rattle.sequence.specs.Sums.{sum_from};
@@ -20,10 +22,10 @@ use checks::{all_places, check, wide};
 use machine::MapWritten;
 use memory::{ANY, Head, Lengths};
 use scanning::next_start;
-use words::put_word_lem;
+use words::put_word;
 
 // How many regions there are, and how many resident pages in them.
-#[derive(Drop)]
+#[derive(Clone, Copy)]
 struct Tally {
     regions: usize,
     pairs: usize,
@@ -55,8 +57,8 @@ fn put_two(file: &mut [u8], word: usize, a: u32, b: u32)
     requires { Room file.old word (a ∷ b ∷ []) }
     ensures { Stored file.old word (a ∷ b ∷ []) file.new (word + 2) }
 {
-    put_word_lem(file, word, a);
-    put_word_lem(file, word + 1, b);
+    put_word(file, word, a);
+    put_word(file, word + 1, b);
 }
 
 // Stores three words from word `word` on.
@@ -65,7 +67,7 @@ fn put_three(file: &mut [u8], word: usize, a: u32, b: u32, c: u32)
     ensures { Stored file.old word (a ∷ b ∷ c ∷ []) file.new (word + 3) }
 {
     put_two(file, word, a, b);
-    put_word_lem(file, word + 2, c);
+    put_word(file, word + 2, c);
 }
 
 // Stores the n pages of the region at a, in the list's order; answers the word after them.
@@ -239,7 +241,7 @@ fn put_chain(file: &mut [u8], link: &[u32], first: u32, n: usize, word: usize) -
     let mut left = n;
     let mut to = word;
     while 0 < left {
-        put_word_lem(file, to, f);
+        put_word(file, to, f);
         f = word_or(link, wide(f));
         to += 1;
         left -= 1;
@@ -255,7 +257,7 @@ fn put_unused(file: &mut [u8], fresh: u32, frames: u32, word: usize)
     let mut frame = fresh;
     let mut to = word;
     while frame < frames {
-        put_word_lem(file, to, frame);
+        put_word(file, to, frame);
         to += 1;
         frame += 1;
     }

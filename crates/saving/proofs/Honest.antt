@@ -14,8 +14,8 @@ use Rattle.index.specs.Laws.{index_bit}
 use Rattle.machine.specs.Machine.{State, Sizes, places, place_of, is_start, region, records}
 use Rattle.machine.specs.Claims.{no_pair, resident_pages}
 use Rattle.machine.specs.Map.{Part, entry_of, block_of, space_part, parts_of, file_words, map_words}
-use Rattle.machine.specs.Laws.Holders.{pool_and_resident}
-use Rattle.machine.specs.Laws.Kept.{none_elsewhere}
+use Rattle.machine.proofs.Laws.Holders.{pool_and_resident}
+use Rattle.machine.proofs.Laws.Kept.{none_elsewhere}
 use Rattle.machine.specs.declared.Region.{Region}
 use Rattle.memory.specs.Memory.{Memory, memory, at, sizes_of}
 use Rattle.promise.specs.Did.{frames_left}

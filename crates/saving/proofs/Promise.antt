@@ -1,9 +1,9 @@
 -- Writing a map keeps the promise, whatever the buffers that it isn't lent.
-use Rattle.std.specs.Prelude.{◌≡◌, Bool, ◌&&◌, ℕ, ◌*◌, ◌≤◌, ◌<◌, take, drop}
+use Rattle.std.specs.Prelude.{◌≡◌, Bool, ℕ, ◌*◌, ◌≤◌, ◌<◌, take, drop}
 use Rattle.std.proofs.Math.Path.{refl, ap}
-use Rattle.std.proofs.Common.{sym, ap₂, ◌∙◌, subst, true≢false, inl, inr, arith, le-leb, length-append, take_at, drop_at}
+use Rattle.std.proofs.Common.{sym, ◌∙◌, subst, true≢false, inl, inr, arith, le-leb, take_at, drop_at}
 use Rattle.std.proofs.Math.Bool.{true, false}
-use mathlib.Core.List.{List, [], ◌++◌}
+use mathlib.Core.List.{List}
 use Rattle.std.proofs.Math.Decide.{dec_le}
 use Rattle.std.proofs.lemmas.Bool.{lt-leb}
 use Rattle.std.proofs.Math.ListN.{length}
@@ -12,16 +12,15 @@ use Rattle.words.specs.Laws.{length_bytes}
 use Rattle.machine.specs.Machine.{State, Lent, Call, write_map, stacks_and_link, first_refusal, asked, map_file, refused, tell, map_if, accepted}
 use Rattle.machine.specs.Map.{map_words, map_of}
 use Rattle.machine.specs.declared.MapWritten.{MapWritten}
-use Rattle.machine.specs.declared.MapWritten.TheVariants.{Bytes, Refused}
 use Rattle.memory.specs.Memory.{Memory, sizes_of, lengths}
 use Rattle.promise.specs.Holds.{Holds}
 use Rattle.promise.specs.Did.{Did}
-use Rattle.promise.specs.Filled.{bytes_filled, MapDid}
+use Rattle.promise.specs.Filled.{MapDid}
 use Rattle.laws.specs.Refusals.{early_did, kept_did}
 use Rattle.laws.specs.Told.{told_did}
 use Rattle.laws.specs.Checks.{same_lent}
 use Rattle.saving.specs.Saved.{saved_words, adds_up, saveable, NotSaved, Written, Saves}
-use Rattle.saving.specs.Honest.{lent_to_save, saved_is, honest_adds}
+use Rattle.saving.proofs.Honest.{lent_to_save, saved_is, honest_adds}
 
 module _ (k : Memory) (file file' : List ℕ) (r : MapWritten) where
   abbrev call : Lent → Call
