@@ -8,7 +8,7 @@ use native.Mathlib.Omega.{arith}
 use borrow.Author.Tests.{leb-true}
 use lib.ListN.{length}
 use Rattle.machine.specs.Machine.{sizes_ok, space_bytes, span_pages}
-use Rattle.machine.specs.Laws.Sizes.{both, fit}
+use Rattle.machine.proofs.Laws.Sizes.{both, fit}
 use Rattle.memory.specs.Memory.{sizes_of}
 use Rattle.memory.specs.declared.Head.{Head}
 use Rattle.memory.specs.declared.Lengths.{Lengths}

@@ -1,3 +1,4 @@
+pub mod Reading
 pub mod Checked
 pub mod Looking
 pub mod Copies

@@ -9,7 +9,7 @@ use Rattle.machine.specs.declared.Looked.{Looked}
 use Rattle.machine.specs.declared.Looked.TheVariants.{Resident}
 use Rattle.memory.specs.Memory.{Memory, sizes_of, lengths}
 use Rattle.promise.specs.Did.{Did}
-use Rattle.reading.specs.Reading.{ResidentTo, resident_none, resident_more}
+use Rattle.reading.proofs.Reading.{ResidentTo, resident_none, resident_more}
 
 -- the loop's state: the pages from `first` to before `page` are resident, whatever the link
 pub record Looking (k : List ℕ → Memory) (i first end page : ℕ) : Type 0 where

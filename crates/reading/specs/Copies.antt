@@ -3,8 +3,8 @@ use Rattle.std.specs.Prelude.{◌≡◌, refl, List, ℕ, ◌+◌, ◌*◌, ◌/
 use Rattle.std.proofs.Common.{sym, ap, ◌∙◌, subst, add-zero, arith}
 use Rattle.std.proofs.Math.Option.{some}
 use Rattle.machine.specs.Machine.{Sizes, page_of_address, State, Page, outside, unmapped, mapped, page_of, ram_at, look, asked, absence}
-use Rattle.machine.specs.Laws.Lookup.{is_mapped}
-use Rattle.machine.specs.Laws.Holders.{ram_mapped}
+use Rattle.machine.proofs.Laws.Lookup.{is_mapped}
+use Rattle.machine.proofs.Laws.Holders.{ram_mapped}
 use Rattle.machine.specs.Answers.{looked_says}
 use Rattle.machine.specs.declared.Looked.{Looked}
 use Rattle.machine.specs.declared.Looked.TheVariants.{Resident}

@@ -1,5 +1,7 @@
 // Reading bytes through the pager. The checks are made once, then pages are looked up by look's own promise, and a
 // page's part of the RAM is copied at once, from the frame that the page table has.
+#![tactic(auto)]
+
 ghost use Rattle.std.specs.Prelude.{◌≡◌, List, ℕ, ◌<◌, ◌≤◌, length, take, drop};
 ghost use Rattle.machine.specs.Machine.{places};
 ghost use Rattle.memory.specs.Memory.{memory, sizes_of, place_in};

@@ -9,8 +9,8 @@ use Rattle.std.specs.Prelude.{length}
 use Rattle.machine.specs.declared.PageCall.TheVariants.{Look}
 use Rattle.machine.specs.Machine.{Sizes, place_of, page_of_address, span_pages, State, page_of, look, read, asked, bytes, refused, tell, absence, or_else}
 use Rattle.machine.specs.Machine.{first_absence, span_absence, read_if, accepted}
-use Rattle.machine.specs.Laws.Sizes.{fit, some_bytes}
-use Rattle.machine.specs.Laws.Shows.{in_pages}
+use Rattle.machine.proofs.Laws.Sizes.{fit, some_bytes}
+use Rattle.machine.proofs.Laws.Shows.{in_pages}
 use Rattle.machine.specs.Answers.{looked_says}
 use Rattle.machine.specs.declared.Looked.{Looked}
 use Rattle.machine.specs.declared.Looked.TheVariants.{Resident}
