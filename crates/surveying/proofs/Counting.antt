@@ -6,14 +6,14 @@ use Prim.Native.Nat.{ℕ, zero, suc, ◌+◌, ◌-◌, ◌≤◌, ◌<◌}
 use native.Mathlib.Nat.{add-zero}
 use native.Mathlib.Omega.{arith}
 use Rattle.machine.specs.Machine.{Sizes, places, place_of, State, Page, outside, unmapped, mapped, page_of, is_outside, any_outside, is_unmapped, count_absent}
-use Rattle.machine.specs.Laws.Lookup.{Mapped, is_mapped}
-use Rattle.machine.specs.Laws.Stays.{or_false}
+use Rattle.machine.proofs.Laws.Lookup.{Mapped, is_mapped}
+use Rattle.machine.proofs.Laws.Stays.{or_false}
 use Rattle.memory.specs.Memory.{Memory, memory, at}
 use Rattle.memory.specs.declared.Head.{Head}
 use Rattle.promise.specs.Holds.{Holds}
 use Rattle.promise.specs.Shown.{resident_ok, frame_of, Shown}
 use Rattle.lookup.specs.Lookup.{mapped_resident, table_frame}
-use Rattle.lookup.specs.Sights.{shown_mapped}
+use Rattle.lookup.proofs.Sights.{shown_mapped}
 use Rattle.surveying.specs.Surveys.{Counted}
 
 -- ---- the last of a span's pages

@@ -22,7 +22,7 @@ use Rattle.promise.specs.Did.{Among, Later, Did}
 use Rattle.laws.specs.Refusals.{passed_step}
 use Rattle.laws.specs.Found.{Found, looked_later, page_found}
 use Rattle.lookup.specs.Ready.{Ready}
-use Rattle.lookup.specs.Sights.{look_asked}
+use Rattle.lookup.proofs.Sights.{look_asked}
 use Rattle.spans.specs.Spans.{absence_of}
 use Rattle.surveying.specs.Surveys.{write_refusal, Settled}
 use Rattle.surveying.specs.Regions.{outside_first}
@@ -93,7 +93,7 @@ module _ (h : Head) (i first absent : ℕ) (index count table helper stack cache
         record {
           late = λ _.
               of_write no
-              (rw look-of.no_is (refused_late _ i first _ look-of.found late (λ e. d (look-of.no_is ∙ e)) (λ e. t (look-of.no_is ∙ e))));
+              (rw look-of.no_is (refused_late (sizes_of h) i first (lengths (lent [] [])) look-of.found late (λ e. d (look-of.no_is ∙ e)) (λ e. t (look-of.no_is ∙ e))));
           honest = λ link ram m H n pos l so-many.
               let e = told link ram m H in
               let s = page_outside (page_of m (place_of m.sizes i first)) (λ q. d (e ∙ q)) (λ q. t (e ∙ q)) in

@@ -8,8 +8,8 @@ use Rattle.std.proofs.Math.Arith.{digits_div}
 use Rattle.std.proofs.Math.Decide.{ℕ_discrete}
 use native.Mathlib.Omega.{arith}
 use Rattle.machine.specs.Machine.{place_of, State, start_in, start_of, page_at, page_of, is_outside, any_outside}
-use Rattle.machine.specs.Laws.Regions.{owner_of, is_owner, own_start}
-use Rattle.machine.specs.Laws.Stays.{no_start, outside_by_start}
+use Rattle.machine.proofs.Laws.Regions.{owner_of, is_owner, own_start}
+use Rattle.machine.proofs.Laws.Stays.{no_start, outside_by_start}
 
 -- the page after one with a region has one, if it lies in the same space: the same, or its own
 next_region : (n : ℕ) (starts : List Bool) (p a : ℕ) → suc p / n ≡ p / n → start_in n starts p ≡ some a → (c : ℕ) × (start_in n starts (suc p) ≡ some c)

@@ -1,5 +1,7 @@
 // What a write finds before its first touch: whether all pages of its span are resident, else how many are absent, and whether the span has
 // a region and the pool a frame for each of them.
+#![tactic(auto)]
+
 ghost use Rattle.std.specs.Prelude.{List, ℕ, ◌≤◌, ◌<◌};
 ghost use Rattle.lookup.specs.Ready.{Lookable};
 ghost use Rattle.surveying.specs.Surveys.{AllResident, Whether, Counted, Settled};
