@@ -7,7 +7,7 @@ use native.Mathlib.Omega.{arith}
 use lib.ListN.{length, take, drop, drop_of_length-le, take-append-drop}
 use lib.Seq.{drop-drop}
 use Rattle.machine.specs.Machine.{stored_at}
-use Rattle.machine.specs.Laws.Storing.{length_stored}
+use Rattle.machine.proofs.Laws.Storing.{length_stored}
 use Rattle.memory.specs.Memory.{place_by}
 use Rattle.memory.specs.declared.Head.{Head}
 use Rattle.storing.specs.Storing.{stored_append}

@@ -4,7 +4,7 @@ use Rattle.std.proofs.Common.{sym, ap, ◌∙◌, mod-lt, mul-le-mul_right, arit
 use Rattle.std.proofs.Math.Option.{none, some, none-ne-some, some-injective}
 use Rattle.std.proofs.lemmas.List.Edits.{sets}
 use Rattle.machine.specs.Machine.{place_of, page_of_address, State, ram_at, stored_at, stored}
-use Rattle.machine.specs.Laws.Stays.{IsMapped}
+use Rattle.machine.proofs.Laws.Stays.{IsMapped}
 use Rattle.memory.specs.Memory.{Memory, at, sizes_of, place_in, place_by}
 use Rattle.memory.specs.declared.Head.{Head}
 use Rattle.promise.specs.Holds.{Holds}

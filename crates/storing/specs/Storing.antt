@@ -11,7 +11,7 @@ use Rattle.sequence.specs.Changes.{changed_none, changed_set}
 use Rattle.sequence.specs.Lists.{suc_across}
 use Rattle.machine.specs.Machine.{stored_in, stored_at}
 use Rattle.promise.specs.Did.{Words}
-use Rattle.promise.specs.Refuses.{words_then}
+use Rattle.promise.proofs.Refuses.{words_then}
 
 module _ (place : ℕ → Option ℕ) where
   -- a part, then the rest

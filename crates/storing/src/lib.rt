@@ -1,4 +1,6 @@
 // Storing the bytes of a span whose pages are mapped: each frame's part of the RAM is lent on, and stored there.
+#![tactic(auto)]
+
 ghost use Rattle.std.specs.Prelude.{◌≡◌, ℕ, ◌<◌, ◌≤◌, length};
 ghost use Rattle.std.proofs.lemmas.List.Edits.{sets};
 ghost use Rattle.machine.specs.Machine.{places, stored_at};
