@@ -6,8 +6,8 @@ use Rattle.std.proofs.Math.Decide.{ℕ_discrete, dec_lt}
 use Rattle.machine.specs.declared.Touched.{Touched}
 use Rattle.machine.specs.declared.Touched.TheVariants as touched_is
 use Rattle.machine.specs.Answers.{touched_says}
-use Rattle.machine.specs.Machine.{place_of, span_pages, Lent, touch, zeroed}
-use Rattle.machine.specs.Laws.Zeroed.{length_zeroed, zeroed_in, zeroed_else}
+use Rattle.machine.specs.Machine.{Sizes, place_of, span_pages, Lent, touch, zeroed}
+use Rattle.machine.proofs.Laws.Zeroed.{length_zeroed, zeroed_in, zeroed_else}
 use Rattle.memory.specs.Memory.{Memory, with_bytes, at, sizes_of, place_in, place_by, lengths}
 use Rattle.memory.specs.declared.Head.{Head}
 use Rattle.promise.specs.Did.{Did}
@@ -122,6 +122,7 @@ pub alike_more : (h h' : Head) → sizes_of h' ≡ sizes_of h → (i x done s b 
 alike_more h h' e i x done s b pos page_is fits before table zeros r inside (touched_is.Old f) below so_far =
     old_more h i x done s b pos page_is fits before table zeros r so_far
 alike_more h h' e i x done s b pos page_is fits before table zeros r inside (touched_is.New f w) below so_far =
-    rw e (new_more h i x done s b pos page_is fits before table zeros r f (below f w refl) inside so_far)
+    rw (ap (λ (z : Sizes). place_of z i b) e, e)
+    (new_more h i x done s b pos page_is fits before table zeros r f (below f w refl) inside so_far)
 alike_more h h' e i x done s b pos page_is fits before table zeros r inside (touched_is.Refused n w) below so_far =
     old_more h i x done s b pos page_is fits before table zeros r so_far

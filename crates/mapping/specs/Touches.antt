@@ -4,12 +4,12 @@ use Rattle.std.proofs.Common.{sym, ap, ◌∙◌, subst, add-zero, add_assoc, ar
 use Rattle.sequence.specs.Lists.{each_append, suc_across}
 use Rattle.machine.specs.declared.PageCall.TheVariants.{Touch}
 use Rattle.machine.specs.Machine.{Sizes, place_of, State, page_facts, touch, touch_at, touch_all, zeroed, Answer, accepted, after}
-use Rattle.machine.specs.Laws.Stays.{grown_all_touched}
+use Rattle.machine.proofs.Laws.Stays.{grown_all_touched}
 use Rattle.memory.specs.Memory.{Memory, sizes_of, lengths}
 use Rattle.promise.specs.Holds.{Holds}
 use Rattle.promise.specs.Shown.{Shown}
 use Rattle.promise.specs.Did.{Maps, zeroed_all, FrameOf, Writes, Did}
-use Rattle.promise.specs.Refuses.{words_same, words_then}
+use Rattle.promise.proofs.Refuses.{words_same, words_then}
 use Rattle.laws.specs.Refusals.{Long, writes_none, passed_step}
 use Rattle.laws.specs.Lengths.{lengths_stay}
 use Rattle.laws.specs.Passing.{page_passes}
@@ -29,7 +29,7 @@ zeroed_all_append z [] gs ram = refl
 zeroed_all_append z (f ∷ fs) gs ram = zeroed_all_append z fs gs (zeroed z f ram)
 
 -- touches one after another map and clear what each of them does
-pub all_writes : {i b n : ℕ} {k k₁ : Memory} → AllTouched i b k n k₁ → Writes (sizes_of k.head) i b n 0 (λ p. ⊥) k k₁
+pub all_writes : {i b : ℕ} {k : Memory} {n : ℕ} {k₁ : Memory} → AllTouched i b k n k₁ → Writes (sizes_of k.head) i b n 0 (λ p. ⊥) k k₁
 all_writes {k = k} none_touched = writes_none _ _ _ _ _ _ k
 all_writes {i} {b} (one_touched {n} {k₁} {k₂} t d) = add_touch n (all_writes t) d.bounds
   where
@@ -105,11 +105,11 @@ touch_all_more m p (suc n) =
     ∙ ap (λ (q : ℕ). (touch_at (touch_all (touch_at m p).after (suc p) n) q).after) (suc_across p n)
 
 -- and lengths stay
-pub touched_lengths : {i b n : ℕ} {k k₁ : Memory} → AllTouched i b k n k₁ → lengths k₁ ≡ lengths k
+pub touched_lengths : {i b : ℕ} {k : Memory} {n : ℕ} {k₁ : Memory} → AllTouched i b k n k₁ → lengths k₁ ≡ lengths k
 touched_lengths none_touched = refl
 touched_lengths {i} {b} (one_touched {n} {k₁} {k₂} {a} t d) = lengths_stay (touch i (b + n)) k₁ a k₂ d ∙ touched_lengths t
 
-pub all_touched_holds : {i b n : ℕ} {k k₁ : Memory} (m : State) → Holds m k → Long (page_facts Touch).uses m.sizes (lengths k)
+pub all_touched_holds : {i b : ℕ} {k : Memory} {n : ℕ} {k₁ : Memory} (m : State) → Holds m k → Long (page_facts Touch).uses m.sizes (lengths k)
     → i < m.sizes.spaces → b + n ≤ m.sizes.pages → AllTouched i b k n k₁
     → Holds (touch_all m (place_of m.sizes i b) n) k₁
 unfolding touch_all accepted

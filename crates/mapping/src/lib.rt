@@ -1,5 +1,7 @@
 // Mapping the pages of a span: each is touched by touch's own promise, ascending, and a new page's frame cleared where the span's bytes don't
 // cover it. The others will be stored over.
+#![tactic(auto)]
+
 ghost use Rattle.std.specs.Prelude.{◌≡◌, ℕ, ◌+◌, ◌%◌, ◌≤◌, ◌<◌};
 ghost use Rattle.machine.specs.declared.Touched.TheVariants.{New};
 ghost use Rattle.machine.specs.Machine.{span_pages};
