@@ -6,9 +6,9 @@ use Rattle.machine.specs.Machine.{place_of, State, any_outside, count_absent}
 use Rattle.memory.specs.Memory.{Memory}
 use Rattle.promise.specs.Holds.{Holds}
 use Rattle.laws.specs.Spans.{AllTouched, none_touched, one_touched}
-use Rattle.lookup.specs.Sights.{shown_mapped}
+use Rattle.lookup.proofs.Sights.{shown_mapped}
 use Rattle.paging.specs.Fits.{Touchable, RamLong}
-use Rattle.paging.specs.Touches.{did_resident}
+use Rattle.paging.proofs.Touches.{did_resident}
 use Rattle.surveying.specs.Surveys.{AllResident}
 
 module _ (k : Memory) (i : ℕ) where

@@ -1,5 +1,7 @@
 // A write into one page that isn't resident: the page is touched, its frame cleared around the bytes, and they are stored. Whether the touch is
 // refused settles the write, so there is no survey.
+#![tactic(auto)]
+
 ghost use Rattle.std.specs.Prelude.{◌≡◌, length};
 ghost use Rattle.machine.specs.Machine as machine;
 ghost use Rattle.machine.specs.Machine.{asked, span_pages};
