@@ -1,5 +1,7 @@
 // A write over any number of pages: regions and pool are settled before the first touch, then every page is touched and new frames cleared around
 // the span, then the bytes are stored. A span whose pages are all resident goes straight to the stores.
+#![tactic(auto)]
+
 ghost use Rattle.machine.specs.Machine as machine;
 ghost use Rattle.machine.specs.Answers.{done_says};
 ghost use Rattle.memory.specs.Memory.{memory};
