@@ -1,4 +1,6 @@
 // Writing bytes through the pager: the checks, then one page or several. The one page of a span, if it is resident, goes straight to the store.
+#![tactic(auto)]
+
 ghost use Rattle.machine.specs.Machine as machine;
 ghost use Rattle.machine.specs.Answers.{done_says};
 ghost use Rattle.memory.specs.Memory.{memory};
