@@ -7,7 +7,7 @@ use native.Mathlib.Nat.{mul-le-mul_right, div-mul-le_self}
 use native.Mathlib.Omega.{arith}
 use lib.ListN.{length}
 use Rattle.machine.specs.Machine.{places, place_of, sizes_ok, State, records_of}
-use Rattle.machine.specs.Laws.Sizes.{fit}
+use Rattle.machine.proofs.Laws.Sizes.{fit}
 use Rattle.machine.specs.declared.Listed.TheVariants.{Regions}
 use Rattle.memory.specs.Memory.{Memory, memory, sizes_of}
 use Rattle.memory.specs.declared.Head.{Head}

@@ -1,5 +1,5 @@
 -- The regions of a space told from the last to the first: what the records told so far say of all of them, and the promise of a list from them.
-use Rattle.std.specs.Prelude.{◌≡◌, refl, List, [], ◌∷◌, ◌++◌, ℕ, ◌+◌, ◌≤◌, length}
+use Rattle.std.specs.Prelude.{◌≡◌, refl, List, [], ◌∷◌, ◌++◌, ℕ, ◌≤◌, length}
 use Rattle.std.proofs.Common.{sym, ◌∙◌, append-nil, append_assoc, arith}
 use Rattle.machine.specs.declared.Region.{Region}
 use Rattle.listing.specs.declared.Cursor.{Cursor}

@@ -11,7 +11,7 @@ use Rattle.std.proofs.lemmas.Bool.{lt-leb}
 use Rattle.places.specs.Laws.{Last}
 use Rattle.machine.specs.declared.PageCall.TheVariants.{Mark}
 use Rattle.machine.specs.Machine.{State, sizes_ok, is_start, region, until_start, records, records_of, list_if, Answer, list, asked, accepted}
-use Rattle.machine.specs.Laws.Sizes.{fit}
+use Rattle.machine.proofs.Laws.Sizes.{fit}
 use Rattle.machine.specs.Answers.{listed_says}
 use Rattle.machine.specs.declared.Region.{Region}
 use Rattle.machine.specs.declared.Listed.TheVariants.{Regions, Refused}

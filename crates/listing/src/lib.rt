@@ -1,6 +1,8 @@
 // Listing the regions of a space. The index is searched from the space's end down, so that nothing but the
 // answer needs memory: once to count the regions, once to tell them from the last to the first. `survey` and
 // `last_region` serve any slice of records; here one of numbers is filled.
+#![tactic(auto)]
+
 ghost use Rattle.std.specs.Prelude.{◌≡◌, List, ℕ, ◌+◌, ◌-◌, ◌*◌, ◌≤◌, ◌<◌, length};
 ghost use Rattle.memory.specs.Memory.{memory};
 ghost use Rattle.promise.specs.Filled.{ListDid};
@@ -12,7 +14,7 @@ use machine::{Listed, Region};
 use memory::{ANY, Head, Lengths};
 
 // The greatest start below a place, or none.
-#[derive(Drop)]
+#[derive(Clone, Copy)]
 pub enum Below {
     Start(usize),
     Nothing,
@@ -20,7 +22,7 @@ pub enum Below {
 
 // The regions still to be told, the last first: `left` of them, in the space that begins at place `lo` and below place
 // `end`, of `places` in all.
-#[derive(Drop)]
+#[derive(Clone, Copy)]
 pub struct Cursor {
     pub left: usize,
     pub places: usize,
@@ -29,14 +31,14 @@ pub struct Cursor {
 }
 
 // The last region to be told, and those before it.
-#[derive(Drop)]
+#[derive(Clone, Copy)]
 pub struct Told {
     pub region: Region,
     pub rest: Cursor,
 }
 
 // The answer of a list, and the regions to be told with it: none where it is refused.
-#[derive(Drop)]
+#[derive(Clone, Copy)]
 pub struct Surveyed {
     pub answer: Listed,
     pub regions: Cursor,
