@@ -2,5 +2,3 @@ pub mod History
 pub mod Demands
 pub mod Maps
 pub mod Outside
-pub mod Laws
-pub mod Theorems

@@ -4,15 +4,15 @@ use Rattle.std.proofs.Common.{sym, ap, ◌∙◌, subst}
 use Rattle.words.specs.Words.{words_in}
 use Rattle.machine.specs.Machine.{Sizes, sizes_ok, State, begun, Lent, every_table, read_map, Call, translate, Answer, at, with_ram, records_of, answers, after_all}
 use Rattle.machine.specs.Claims.{Same}
-use Rattle.machine.specs.Laws.Holders.{one_holder, pool_and_resident, same_byte}
-use Rattle.machine.specs.Laws.Records.{listed_pages_lem}
-use Rattle.machine.specs.Laws.Bytes.{read_there}
-use Rattle.machine.specs.Laws.Hidden.{ram_unseen, start_bare}
-use Rattle.machine.specs.Laws.Sizes.{both}
+use Rattle.machine.proofs.Laws.Holders.{one_holder, pool_and_resident, same_byte}
+use Rattle.machine.proofs.Laws.Records.{listed_pages_lem}
+use Rattle.machine.proofs.Laws.Bytes.{read_there}
+use Rattle.machine.proofs.Laws.Hidden.{ram_unseen, start_bare}
+use Rattle.machine.proofs.Laws.Sizes.{both}
 use Rattle.machine.specs.Map.{first_body, map_of, sizes_in}
 use Rattle.machine.specs.Fullness.{fullness_of}
-use Rattle.machine.specs.MapTheorems.{described_ram, described_ok, described_sizes, file_contents, write_then_read as Written-Read}
-use Rattle.machine.specs.MapTheorems.{fullness_resident, fullness_cut}
+use Rattle.machine.proofs.MapTheorems.{described_ram, described_ok, described_sizes, file_contents, write_then_read as Written-Read}
+use Rattle.machine.proofs.MapTheorems.{fullness_resident, fullness_cut}
 use Rattle.memory.specs.Memory.{Memory, sizes_of, lengths}
 use Rattle.promise.specs.Holds.{Holds}
 use Rattle.promise.specs.Did.{Did}
@@ -21,12 +21,12 @@ use Rattle.laws.specs.Located.{translate_asks, translate_next, translate_residen
 use Rattle.demands.specs.History.{calls}
 use Rattle.demands.specs.Demands.{Demand1, Demand1Read, Demand1List, machine_at, Demand2, Demand2Ram, Demand3For}
 use Rattle.demands.specs.Maps.{Demand1Map, ReadsExactly, WriteThenRead, ReadThenWrite, WrittenFullness}
-use Rattle.demands.specs.Laws.Run.{begins_holding, sequence_follows}
-use Rattle.demands.specs.Laws.Rooms.{run_rooms, run_bare}
-use Rattle.demands.specs.Laws.Next.{free_next, list_next, read_asks}
-use Rattle.demands.specs.Laws.Byte.{stored_there}
-use Rattle.demands.specs.Laws.Maps.{map_passes, described_begins, map_is, reads, written_again}
-use Rattle.demands.specs.Laws.Filled.{course_follows}
+use Rattle.demands.proofs.Laws.Run.{begins_holding, sequence_follows}
+use Rattle.demands.proofs.Laws.Rooms.{run_rooms, run_bare}
+use Rattle.demands.proofs.Laws.Next.{free_next, list_next, read_asks}
+use Rattle.demands.proofs.Laws.Byte.{stored_there}
+use Rattle.demands.proofs.Laws.Maps.{map_passes, described_begins, map_is, reads, written_again}
+use Rattle.demands.proofs.Laws.Filled.{course_follows}
 use Rattle.demands.specs.Outside.{made, after_in, OutsideFor}
 
 pub demand_1 : (c : Lent → Call) (k : Memory) (a : Answer) (k' : Memory) → Did c k a k' → Demand1 c k a k'

@@ -4,13 +4,13 @@ use Rattle.std.proofs.Common.{ap, ap₂, ◌∙◌}
 use Rattle.std.proofs.lemmas.Bool.{false≢true}
 use Rattle.machine.specs.Machine.{Sizes, State, Call, facts, Kind, refusal_of, done, with_ram, answers, after, after_all}
 use Rattle.machine.specs.Claims.{is_refused}
-use Rattle.machine.specs.Laws.Calls.{is_refusal}
+use Rattle.machine.proofs.Laws.Calls.{is_refusal}
 use Rattle.memory.specs.Memory.{Memory}
 use Rattle.promise.specs.Holds.{Holds}
 use Rattle.promise.specs.Did.{Exactly}
 use Rattle.demands.specs.History.{Event, played, calls, Run, none, next, Beginning}
 use Rattle.demands.specs.Demands.{Sequence}
-use Rattle.demands.specs.Laws.Step.{told, begun_holds, step_follows}
+use Rattle.demands.proofs.Laws.Step.{told, begun_holds, step_follows}
 
 pub record Followed (m : State) (es : List Event) (k' : Memory) : Type 0 where
   pub answers_are : map (λ (e : Event). e.answer) es ≡ answers m (calls es)

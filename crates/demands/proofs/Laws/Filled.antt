@@ -8,9 +8,9 @@ use Rattle.promise.specs.Holds.{Holds}
 use Rattle.laws.specs.Bytes.{bytes_hold}
 use Rattle.demands.specs.History.{Event, played, calls}
 use Rattle.demands.specs.Outside.{Turn, called, Course, none, call, fill, made, answers_in, after_in}
-use Rattle.demands.specs.Laws.Step.{step_follows}
-use Rattle.machine.specs.Laws.Unseen.{likewise_blind}
-use Rattle.machine.specs.Laws.Calls.{alike}
+use Rattle.demands.proofs.Laws.Step.{step_follows}
+use Rattle.machine.proofs.Laws.Unseen.{likewise_blind}
+use Rattle.machine.proofs.Laws.Calls.{alike}
 
 -- of the machine m with another RAM, beside m itself that nobody wrote to
 pub record Filled (m : State) (ram : List ℕ) (ts : List Turn) (k' : Memory) : Type 0 where

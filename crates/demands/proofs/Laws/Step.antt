@@ -6,17 +6,17 @@ use Rattle.std.proofs.Math.Option.{Option, none, some}
 use Rattle.machine.specs.declared.PageCall.TheVariants.{Mark, Drop, Touch, Look, Release, GiveBack}
 use Rattle.machine.specs.Machine.{Sizes, State, Lent, uses, facts, sizes_by, Call, start, page, free, translate, read, write, list, write_map, read_map, asked}
 use Rattle.machine.specs.Machine.{Answer, done, refusal, Out, with_ram}
-use Rattle.machine.specs.Laws.Calls.{begins_so}
+use Rattle.machine.proofs.Laws.Calls.{begins_so}
 use Rattle.memory.specs.Memory.{Memory, sizes_of, lengths}
 use Rattle.promise.specs.Holds.{Holds}
 use Rattle.promise.specs.Did.{Exactly, still, Follows, BeginsBy, Begins, Did}
 use Rattle.laws.specs.Refusals.{Long, passed_step, refused_step, refusal_still, early_did}
 use Rattle.laws.specs.Lengths.{lengths_stay, sizes_stay}
 use Rattle.demands.specs.History.{front, rejoined, Lends, Parts, Carries, Event, played, FrontStep, ShortStep, Step, lent_front, lent_short}
-use Rattle.demands.specs.Laws.Parts.{lengths_front, rejoined_front}
-use Rattle.demands.specs.Laws.Cut.{cut, SameCut, same_whole, same_read, same_touch, same_write}
-use Rattle.demands.specs.Laws.Agree.{front_holds, rejoined_holds}
-use Rattle.demands.specs.Laws.Lent.{asked_long}
+use Rattle.demands.proofs.Laws.Parts.{lengths_front, rejoined_front}
+use Rattle.demands.proofs.Laws.Cut.{cut, SameCut, same_whole, same_read, same_touch, same_write}
+use Rattle.demands.proofs.Laws.Agree.{front_holds, rejoined_holds}
+use Rattle.demands.proofs.Laws.Lent.{asked_long}
 
 -- the promise on the part that was lent, its lengths being those that the call carries
 pub record Told (k : Memory) (n : Lent) (c : Call) (a : Answer) (part : Memory) : Type 0 where

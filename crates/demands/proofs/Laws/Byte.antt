@@ -6,13 +6,13 @@ use mathlib.Core.List.{List, [], ◌∷◌, ◌++◌}
 use Rattle.std.proofs.Math.Option.{some}
 use Rattle.machine.specs.Machine.{State, write, done, with_ram, answer, after, after_all}
 use Rattle.machine.specs.Claims.{Address, shows}
-use Rattle.machine.specs.Laws.Bytes.{written_stays}
+use Rattle.machine.proofs.Laws.Bytes.{written_stays}
 use Rattle.memory.specs.Memory.{Memory}
 use Rattle.demands.specs.History.{Event, played, calls, Step, Run, next}
 use Rattle.demands.specs.Demands.{machine_at, Sequence, StoredAt}
-use Rattle.demands.specs.Laws.Step.{step_follows}
-use Rattle.demands.specs.Laws.Rooms.{step_room}
-use Rattle.demands.specs.Laws.Run.{run_follows, run_split, begins_holding}
+use Rattle.demands.proofs.Laws.Step.{step_follows}
+use Rattle.demands.proofs.Laws.Rooms.{step_room}
+use Rattle.demands.proofs.Laws.Run.{run_follows, run_split, begins_holding}
 
 first_step : {k k' : Memory} {e : Event} {es : List Event} → Run k (e ∷ es) k' → (k₁ : Memory) × Step k e k₁
 first_step (next {k₁ = k₁} s r) = (k₁, s)

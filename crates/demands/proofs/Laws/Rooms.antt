@@ -2,14 +2,14 @@
 use Rattle.std.specs.Prelude.{◌≡◌, List, ◌≤◌, length}
 use Rattle.std.proofs.Common.{ap, ◌∙◌, subst, arith}
 use Rattle.machine.specs.Machine.{Sizes, State, asked, after}
-use Rattle.machine.specs.Laws.Calls.{RoomFor, begun_done}
-use Rattle.machine.specs.Laws.Hidden.{AllRoom, AllBare}
+use Rattle.machine.proofs.Laws.Calls.{RoomFor, begun_done}
+use Rattle.machine.proofs.Laws.Hidden.{AllRoom, AllBare}
 use Rattle.memory.specs.Memory.{Memory}
 use Rattle.promise.specs.Holds.{Holds}
 use Rattle.demands.specs.History.{Event, played, calls, Step, lent_front, lent_short, Run, none, next}
 use Rattle.demands.specs.Demands.{BeginBare}
-use Rattle.demands.specs.Laws.Lent.{asked_long}
-use Rattle.demands.specs.Laws.Step.{told, step_follows}
+use Rattle.demands.proofs.Laws.Lent.{asked_long}
+use Rattle.demands.proofs.Laws.Step.{told, step_follows}
 
 pub step_room : (m : State) (k : Memory) (e : Event) (k' : Memory) → Holds m k → Step k e k' → RoomFor m (played e)
 step_room m k e k' H (lent_front f) passes lent =

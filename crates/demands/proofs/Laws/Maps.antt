@@ -12,9 +12,9 @@ use Rattle.machine.specs.Machine.{Answer, done, map_file, refused, refusal, map_
 use Rattle.machine.specs.Claims.{Sound, Described}
 use Rattle.machine.specs.Map.{sizes_in, state_in, map_of}
 use Rattle.machine.specs.MapRules.{contents_ok, file_ok, described}
-use Rattle.machine.specs.MapTheorems.{file_described, described_file, read_then_write, described_ram, described_ok, described_sizes, file_contents}
-use Rattle.machine.specs.Laws.Sizes.{both, passed, around_passed}
-use Rattle.machine.specs.Laws.Calls.{map_described}
+use Rattle.machine.proofs.MapTheorems.{file_described, described_file, read_then_write, described_ram, described_ok, described_sizes, file_contents}
+use Rattle.machine.proofs.Laws.Sizes.{both, passed, around_passed}
+use Rattle.machine.proofs.Laws.Calls.{map_described}
 use Rattle.memory.specs.Memory.{Memory, sizes_of, lengths}
 use Rattle.promise.specs.Holds.{Holds}
 use Rattle.promise.specs.Did.{Exactly, still, BeginsBy, Did}
@@ -22,7 +22,7 @@ use Rattle.laws.specs.Refusals.{Long, long, passed_step}
 use Rattle.laws.specs.Passing.{long_enough_lem}
 use Rattle.laws.specs.Lengths.{lengths_stay}
 use Rattle.demands.specs.Maps.{Reads}
-use Rattle.demands.specs.Laws.Run.{accepted_asks}
+use Rattle.demands.proofs.Laws.Run.{accepted_asks}
 
 -- ---- what the checks ask
 

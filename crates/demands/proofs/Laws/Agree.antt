@@ -9,15 +9,15 @@ use Rattle.places.specs.Places.{size}
 use Rattle.index.specs.Words.{IndexOf}
 use Rattle.machine.specs.Machine.{Sizes, places, State, Pair, Lent, Uses, is_start, region, frames_of, with_ram}
 use Rattle.machine.specs.Claims.{no_pair, times_in}
-use Rattle.machine.specs.Laws.Kept.{sound_stored}
+use Rattle.machine.proofs.Laws.Kept.{sound_stored}
 use Rattle.memory.specs.Memory.{Memory, at, sizes_of, lengths}
 use Rattle.promise.specs.Holds.{Chain, Pooled, unused, Placed, Holds}
 use Rattle.pool.specs.Pool.{sum_any, free_below}
 use Rattle.laws.specs.Refusals.{Long}
 use Rattle.laws.specs.Room.{owned_below}
 use Rattle.demands.specs.History.{front, rejoined, Lends, Parts}
-use Rattle.demands.specs.Laws.Parts.{lends_enough, lengths_front}
-use Rattle.demands.specs.Laws.Cut.{cut, mended}
+use Rattle.demands.proofs.Laws.Parts.{lends_enough, lengths_front}
+use Rattle.demands.proofs.Laws.Cut.{cut, mended}
 
 -- ---- lists with the same front
 

@@ -15,12 +15,12 @@ use Rattle.machine.specs.Machine.{read, write, asked, Answer, bytes, Out, tell, 
 use Rattle.machine.specs.Machine.{byte_in, byte_at, read_if, stored_in, stored_at, stored, with_ram, store_all, span_outside, span_short, write_if, refusal}
 use Rattle.machine.specs.Machine.{accepted, unless, step, answer, after}
 use Rattle.machine.specs.Claims.{Sound, RamFits}
-use Rattle.machine.specs.Laws.Kept.{sound_stored}
-use Rattle.machine.specs.Laws.Steps.{sound_touched, sound_all_touched}
-use Rattle.machine.specs.Laws.Stays.{grown_fits, grown_touched, grown_all_touched}
-use Rattle.machine.specs.Laws.Holders.{ram_below}
-use Rattle.machine.specs.Laws.Unseen.{absence_any, outside_any, absent_any}
-use Rattle.machine.specs.Laws.Zeroed.{zeroed_front}
+use Rattle.machine.proofs.Laws.Kept.{sound_stored}
+use Rattle.machine.proofs.Laws.Steps.{sound_touched, sound_all_touched}
+use Rattle.machine.proofs.Laws.Stays.{grown_fits, grown_touched, grown_all_touched}
+use Rattle.machine.proofs.Laws.Holders.{ram_below}
+use Rattle.machine.proofs.Laws.Unseen.{absence_any, outside_any, absent_any}
+use Rattle.machine.proofs.Laws.Zeroed.{zeroed_front}
 use Rattle.pool.specs.Pool.{free_below}
 
 -- the machine with its RAM cut after n bytes, and with bytes put behind its RAM

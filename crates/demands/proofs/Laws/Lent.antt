@@ -3,8 +3,8 @@ use Rattle.std.specs.Prelude.{◌≡◌, refl, true}
 use Rattle.std.proofs.Common.{subst}
 use Rattle.machine.specs.Machine.{Sizes, sizes_ok, Lent, Lending, lends_none, lends, uses_of, no_buffers, uses, enough, lent_ok, sizes_for, sizes_after, facts, Call}
 use Rattle.machine.specs.Machine.{asked}
-use Rattle.machine.specs.Laws.Sizes.{both, passed, around_passed}
-use Rattle.machine.specs.Laws.Calls.{sizes_named_lem}
+use Rattle.machine.proofs.Laws.Sizes.{both, passed, around_passed}
+use Rattle.machine.proofs.Laws.Calls.{sizes_named_lem}
 use Rattle.laws.specs.Refusals.{Long, long}
 use Rattle.demands.specs.History.{CarriesBy, Carries}
 
