@@ -1,5 +1,6 @@
 // The pager's calls in one place, each with its answer and its refusals: document 01, "Refusal numbers".
 // None asks anything of its caller; 1 to 3 are refused on any memory, 9 only on memory that no call left so.
+#![tactic(auto)]
 
 // Begins anew with these sizes, no starts and every frame in the pool: Ok. Refused: 1.
 pub use starting::start;
