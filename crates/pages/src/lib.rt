@@ -1,4 +1,6 @@
 // The six calls on a page as one: which of them in, a reply out.
+#![tactic(auto)]
+
 ghost use Rattle.std.specs.Prelude.{List, ℕ};
 ghost use Rattle.memory.specs.Memory.{memory};
 ghost use Rattle.requests.specs.declared.Request.TheVariants.{Page};
@@ -10,7 +12,7 @@ use pager::{drop, give_back, look, mark, release, touch};
 use requests::Reply;
 
 // A reply, and the head after it.
-#[derive(Drop)]
+#[derive(Clone, Copy)]
 pub struct Served {
     pub head: Head,
     pub reply: Reply,
