@@ -6,13 +6,13 @@ use Rattle.std.proofs.Math.Option.{Option, some}
 use Rattle.std.proofs.Math.Seq.{take-length, drop-length}
 use Rattle.machine.specs.Machine.{Sizes, sizes, sizes_ok, State, Lent, Call, start, read_map, uses, facts, asked, Answer, refusal, answer, after, Out}
 use Rattle.machine.specs.Machine.{unstarted, with_ram}
-use Rattle.machine.specs.Laws.Calls.{begins_so, map_described}
+use Rattle.machine.proofs.Laws.Calls.{begins_so, map_described}
 use Rattle.memory.specs.Memory.{Memory, memory, sizes_of, lengths}
 use Rattle.promise.specs.Holds.{Holds}
 use Rattle.promise.specs.Did.{BeginsBy, Did, Exactly, still}
 use Rattle.laws.specs.Refusals.{passed_step, refused_step, refusal_still}
 use Rattle.demands.specs.History.{front, rejoined, Lends, Carries, FrontStep, lent_front}
-use Rattle.demands.specs.Laws.Step.{step_follows}
+use Rattle.demands.proofs.Laws.Step.{step_follows}
 use Rattle.requests.specs.Requests.{requested}
 use Rattle.requests.specs.declared.Request.{Request}
 use Rattle.requests.specs.declared.Request.TheVariants.{Start, Page, Free, Translate, Read, Write, List as Listing, WriteMap, ReadMap}

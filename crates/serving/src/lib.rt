@@ -1,4 +1,6 @@
 // One step over all the calls: a request in, a reply out. Who plays calls from a list or from lines stands on it.
+#![tactic(auto)]
+
 ghost use Rattle.memory.specs.Memory.{memory};
 ghost use Rattle.pages.specs.Serves.{Serves};
 
