@@ -8,7 +8,7 @@ use lib.Dec.{leb}
 use mir.Syntax.{w32}
 use mir.Val.{Fits}
 use Rattle.sequence.specs.Tests.{held}
-use Rattle.machine.specs.Laws.Sizes.{both}
+use Rattle.machine.proofs.Laws.Sizes.{both}
 use Rattle.decoding.specs.Calls.{fits, inside}
 
 -- a number that passed has 32 bits

@@ -1,7 +1,7 @@
 -- The parts that a call is lent lie inside their buffers.
 use Rattle.std.specs.Prelude.{◌≡◌, refl, Bool, true, false, cond, ◌&&◌, ℕ, ◌-◌, ◌≤◌, eqb, leb}
 use Rattle.std.proofs.Common.{arith, leb-true}
-use Rattle.machine.specs.Laws.Sizes.{both}
+use Rattle.machine.proofs.Laws.Sizes.{both}
 use Rattle.requests.specs.declared.Request.{Request}
 use Rattle.requests.specs.declared.Request.TheVariants.{Start, Page, Free, Translate, List, WriteMap, ReadMap}
 use Rattle.decoding.specs.declared.Parts.{Parts}

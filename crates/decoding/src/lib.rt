@@ -1,4 +1,6 @@
 // Five numbers as a call, and the parts of the buffers that it is lent.
+#![tactic(auto)]
+
 ghost use Rattle.std.specs.Prelude.{◌≡◌};
 ghost use Rattle.decoding.specs.Calls.{fits, inside, no_parts, start_code, page_code, translate_code, span_request, span_code, list_code, map_code};
 ghost use Rattle.decoding.specs.Calls.{page_kind, decoded};
@@ -7,7 +9,7 @@ use machine::PageCall;
 use requests::Request;
 
 // The part of the byte buffer and the part of the records that a call is lent.
-#[derive(Drop)]
+#[derive(Clone, Copy)]
 pub struct Parts {
     pub from: usize,
     pub to: usize,
@@ -16,14 +18,14 @@ pub struct Parts {
 }
 
 // The first number of a code: a call on a page, or any other.
-#[derive(Drop)]
+#[derive(Clone, Copy)]
 pub enum Kind {
     Page(PageCall),
     Other,
 }
 
 // What five numbers say.
-#[derive(Drop)]
+#[derive(Clone, Copy)]
 pub enum Code {
     Call(Request, Parts),
     Unreadable,
