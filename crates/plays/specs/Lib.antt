@@ -1,4 +1,3 @@
 pub mod Codes
 pub mod Plays
 pub mod Promise
-pub mod Laws

@@ -4,14 +4,14 @@ use Rattle.std.proofs.Common.{sym, ap, ◌∙◌, subst, inl, add-zero, zero-add
 use Rattle.std.proofs.Math.Option.{Option, some, none-ne-some}
 use Rattle.machine.specs.Machine.{Sizes, State, Call as MachineCall, start, page, free, translate, read, write, list, write_map, read_map, facts, asked, Answer}
 use Rattle.machine.specs.Machine.{done, after, Out, with_ram, unstarted, step}
-use Rattle.machine.specs.Laws.Calls.{begins_so}
+use Rattle.machine.proofs.Laws.Calls.{begins_so}
 use Rattle.memory.specs.Memory.{Memory, sizes_of, lengths}
 use Rattle.promise.specs.Holds.{Roomy}
 use Rattle.promise.specs.Did.{BeginsBy}
 use Rattle.laws.specs.Refusals.{passed_step}
 use Rattle.demands.specs.History.{Event, lent_front, Run, none, next}
 use Rattle.demands.specs.Demands.{machine_at, Demand3}
-use Rattle.demands.specs.Theorems.{demand_3}
+use Rattle.demands.proofs.Theorems.{demand_3}
 use Rattle.serving.specs.Steps.{whole_step, Stands, serve_follows}
 use Rattle.requests.specs.declared.Request.{Request}
 use Rattle.decoding.specs.declared.Parts.{Parts}
