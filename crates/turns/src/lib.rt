@@ -1,4 +1,6 @@
 // One turn of a list of codes: five numbers are a call, and three its answer.
+#![tactic(auto)]
+
 ghost use Rattle.std.specs.Prelude.{◌≡◌, length};
 ghost use Rattle.memory.specs.Memory.{memory};
 ghost use Rattle.requests.specs.Codes.{numbers_of};

@@ -4,9 +4,8 @@ use mathlib.Core.List.{List, [], ◌∷◌}
 use Prim.Native.Nat.{ℕ}
 use native.Mathlib.Omega.{arith}
 use lib.ListN.{length, set}
-use borrow.Author.Rules.{rules}
-use Rattle.turns.proofs.put.Statement.{statement}
-use Rattle.turns.proofs.put.Tie as tie
+use Rattle.std.proofs.Common.{rules}
+use Rattle.turns.proofs.put.Goals as goal
 
 all_set : (l : List ℕ) (a b c : ℕ) → length l ≡ 3 → set (set (set l 0 a) 1 b) 2 c ≡ a ∷ b ∷ c ∷ []
 all_set (x ∷ y ∷ z ∷ []) a b c e = refl
@@ -15,10 +14,5 @@ all_set (x ∷ []) a b c e = absurd (omega arith)
 all_set (x ∷ y ∷ []) a b c e = absurd (omega arith)
 all_set (x ∷ y ∷ z ∷ w ∷ l) a b c e = absurd (omega arith)
 
-returns : tie.Need-returns
-returns c = all_set c.before.before.args.reply.now _ _ _ c.before.before.requires
-
-pub put_spec : {M : Type 1} → statement M
-put_spec =
-    tie.close
-    (tie.spec (λ c. search rules) (λ c. search rules) (λ c. search rules) (λ c. search rules) (λ c. search rules) (λ c. search rules) returns)
+pub returns : goal.returns
+returns c = all_set c.args.reply.now _ _ _ c.requires
