@@ -13,7 +13,7 @@ use Rattle.decoding.specs.declared.Code.TheVariants.{Call, Unreadable}
 use Rattle.plays.specs.Codes.{code_at}
 use Rattle.plays.specs.Plays.{Desk, part, with_reply, called, PlayedOne, Turns}
 use Rattle.plays.specs.Plays.Turns.{none, skip, turn}
-use Rattle.plays.specs.Laws.{turns_append}
+use Rattle.plays.proofs.Laws.{turns_append}
 
 -- every buffer of the memory is as long as it was
 pub record Long (k₀ k : Memory) : Type 0 where

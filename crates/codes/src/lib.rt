@@ -1,4 +1,6 @@
 // Plays a lent list of encoded calls on lent memory: five numbers a call, three an answer.
+#![tactic(auto)]
+
 ghost use Rattle.std.specs.Prelude.{◌≡◌, min, ◌/◌, length};
 ghost use Rattle.memory.specs.Memory.{memory};
 ghost use Rattle.plays.specs.Promise.{Plays};
@@ -31,13 +33,13 @@ pub fn play(
     link: &mut [u32],
     ram: &mut [u8],
 ) -> Head
-    ensures { Plays codes.now (min (length codes.now / 5) (length replies.entry.now / 3))
+    ensures { Plays codes.now (min (length codes.now / 5) (length replies.old / 3))
         (memory head index.old count.old table.old helper.old stack.old cache.old
         link.old ram.old)
-        (record { replies = replies.entry.now; bytes = bytes.old; records = records.old })
+        (record { replies = replies.old; bytes = bytes.old; records = records.old })
         (memory result index.new count.new table.new helper.new stack.new cache.new link.new
         ram.new)
-        (record { replies = replies.exit.now; bytes = bytes.new; records = records.new }) }
+        (record { replies = replies.new; bytes = bytes.new; records = records.new }) }
 {
     let n = least(codes.len() / 5, replies.len() / 3);
     let mut next = head;
