@@ -3,7 +3,7 @@ use Rattle.std.specs.Prelude.{◌≡◌, refl, Bool, true, false, cond, ◌&&◌
 use mathlib.Core.List.{List, [], ◌∷◌}
 use Prim.Native.Nat.{ℕ, zero, suc, ◌+◌, ◌-◌, ◌*◌, ◌≤◌, ◌<◌}
 use Rattle.std.proofs.Common.{add-one, arith, leb-true, drop_of_length-le, drop-cons, drop-drop}
-use Rattle.machine.specs.Laws.Sizes.{both}
+use Rattle.machine.proofs.Laws.Sizes.{both}
 use Rattle.fields.specs.declared.Field.{Field}
 use Rattle.fields.specs.declared.Field.TheVariants as field_is
 use Rattle.fields.specs.Fields.{begins, is_digit, FieldTaken, nothing, number, digits_after, number_at, field_at, Takes}

@@ -1,9 +1,11 @@
 // The fields of a line: its name, a number after a blank.
+#![tactic(auto)]
+
 ghost use Rattle.std.specs.Prelude.{Bool, ◌≡◌, ◌-◌, ◌≤◌, length};
 ghost use Rattle.fields.specs.Fields.{begins, is_digit, Takes};
 
 // A number of a line, and where it ends.
-#[derive(Drop)]
+#[derive(Clone, Copy)]
 pub enum Field {
     Number(u32, usize),
     Nothing,
