@@ -9,7 +9,7 @@ use borrow.Author.Tests.{leb-true}
 use lib.Dec.{leb}
 use lib.ListN.{length, take, drop, get_or, set, length-set, take-append-drop}
 use lib.Seq.{take-suc-set, drop-set-lt, drop-drop}
-use Rattle.machine.specs.Laws.Sizes.{both}
+use Rattle.machine.proofs.Laws.Sizes.{both}
 use Rattle.fields.specs.Laws.{here, over}
 use Rattle.hexing.specs.Hex.{is_hex, all_hex, nibble, bytes_in, hex_of, unhexed}
 use Rattle.hexing.specs.Laws.{unhexed_all}

@@ -4,7 +4,7 @@ use native.Mathlib.Omega.{arith}
 use Rattle.std.proofs.Common.{leb-true, eqb-true, le-leb}
 use Rattle.std.proofs.Math.ListN.{length}
 use Rattle.std.proofs.Math.Seq.{drop-length}
-use Rattle.machine.specs.Laws.Sizes.{both}
+use Rattle.machine.proofs.Laws.Sizes.{both}
 use Rattle.fields.specs.Laws.{either, Ends, tail}
 use Rattle.hexing.specs.declared.Bytes.{Bytes}
 use Rattle.hexing.specs.declared.Bytes.TheVariants.{Count, Wrong}

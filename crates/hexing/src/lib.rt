@@ -1,11 +1,13 @@
 // Bytes in hex, two digits each: how many stand at a line's end, and the bytes that they are.
+#![tactic(auto)]
+
 ghost use Rattle.std.specs.Prelude.{Bool, ◌≡◌, ◌+◌, ◌*◌, ◌≤◌, length, drop};
 ghost use Rattle.hexing.specs.Hex.{is_hex, all_hex, hex_count, nibble, unhexed};
 
 use fields::{BLANK, is_digit};
 
 // The bytes of a write, or that they aren't any.
-#[derive(Drop)]
+#[derive(Clone, Copy)]
 pub enum Bytes {
     Count(usize),
     Wrong,
