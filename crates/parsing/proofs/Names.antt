@@ -7,7 +7,7 @@ use native.Mathlib.Omega.{arith}
 use borrow.Author.Tests.{eqb-true}
 use lib.Dec.{eqb}
 use lib.ListN.{length, drop}
-use Rattle.machine.specs.Laws.Sizes.{both}
+use Rattle.machine.proofs.Laws.Sizes.{both}
 use Rattle.machine.specs.declared.PageCall.{PageCall}
 use Rattle.fields.specs.Fields.{begins}
 use Rattle.fields.specs.Laws.{begins_long}
