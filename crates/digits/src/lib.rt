@@ -1,4 +1,6 @@
 // Text written into a lent buffer after what stands there already: a word, numbers in decimal, bytes in hex.
+#![tactic(auto)]
+
 ghost use Rattle.std.specs.Prelude.{◌≡◌, ◌++◌, ◌+◌, ◌*◌, ◌≤◌, length};
 ghost use Rattle.io.specs.Digits.{hex_digit_ascii, last_digits};
 ghost use Rattle.digits.specs.Text.{decimal, hex_text, numbers_text};
