@@ -1,4 +1,6 @@
 // The words of answers in a lent buffer, after what stands there already, with the numbers and bytes that belong to them.
+#![tactic(auto)]
+
 ghost use Rattle.std.specs.Prelude.{cond, [], ◌++◌, ◌+◌, ◌*◌, ◌≤◌, leb, length, take};
 ghost use Rattle.digits.specs.Text.{decimal, hex_text, numbers_text, blank};
 ghost use Rattle.digits.specs.Writing.{Wrote};
