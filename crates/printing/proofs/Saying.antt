@@ -8,7 +8,7 @@ use borrow.Author.Tests.{leb-true}
 use lib.Dec.{leb}
 use lib.ListN.{length, take, drop}
 use lib.Seq.{take_at}
-use Rattle.machine.specs.Laws.Sizes.{both}
+use Rattle.machine.proofs.Laws.Sizes.{both}
 use Rattle.promise.specs.Filled.{records_in}
 use Rattle.requests.specs.Requests.{region_numbers, replied}
 use Rattle.requests.specs.Laws.{records_length, numbers_length, records_numbers}

@@ -1,4 +1,6 @@
 // The text of an answer, written into a lent buffer after what stands there already.
+#![tactic(auto)]
+
 ghost use Rattle.std.specs.Prelude.{[]};
 ghost use Rattle.requests.specs.declared.Reply.TheVariants.{Refused};
 ghost use Rattle.printing.specs.Writing.{Says};
