@@ -1,4 +1,6 @@
 // What a session does ahead of a call: the limits of a start, the bytes of a write.
+#![tactic(auto)]
+
 ghost use Rattle.std.specs.Prelude.{not, ◌&&◌, ◌≡◌, ◌*◌, leb};
 ghost use Rattle.ahead.specs.Ahead.{beyond, filled_by};
 

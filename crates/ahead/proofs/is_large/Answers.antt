@@ -8,8 +8,7 @@ use borrow.Author.Tests.{ltb-true, ltb-false, le-leb, lt-leb}
 use lib.Dec.{leb, ltb}
 use mir.Syntax.{w32, w64}
 use mir.Val.{Fits}
-use Rattle.ahead.proofs.is_large.Statement.{statement}
-use Rattle.ahead.proofs.is_large.Tie as tie
+use Rattle.ahead.proofs.is_large.Goals as goal
 
 product_fits : (a b : ℕ) → Fits w32 a → Fits w32 b → Fits w64 (a * b)
 product_fits a b x y = omega (arith, mul-le-mul {n₁ = a} {m₁ = b} {n₂ = 4294967295} {m₂ = 4294967295} (omega arith) (omega arith))
@@ -21,17 +20,14 @@ less_not_most a b = go (ltb b a) refl
     go true e = rw (lt-leb a b (ltb-true b a e))
     go false e = rw (le-leb a b (ltb-false b a e))
 
-mul-if1 : tie.Need-overflow-mul-if1
-mul-if1 c = product_fits _ _ c.ranges.s c.ranges.n
+pub overflow_mul-s : goal.overflow_mul-s
+overflow_mul-s c = product_fits _ _ c.ranges.s c.ranges.n
 
-returns : tie.Need-returns
-returns c = rw (lt-leb _ 1024 c.if1.true)
+pub returns-then-s-n-gt1024 : goal.returns-then-s-n-gt1024
+returns-then-s-n-gt1024 c = rw (lt-leb _ 1024 c.if-s-n-gt1024.true)
 
-mul-result : tie.Need-overflow-mul-result
-mul-result c = product_fits _ _ c.before.ranges.f c.before.ranges.p
+pub overflow_mul-result : goal.overflow_mul-result
+overflow_mul-result c = product_fits _ _ c.ranges.f c.ranges.p
 
-returns-2 : tie.Need-returns-2
-returns-2 c = rw (le-leb _ 1024 c.if1.false) (less_not_most (c.before.args.f * c.before.args.p) 32768)
-
-pub is-large-spec : {M : Type 1} → statement M
-is-large-spec = tie.close (tie.spec mul-if1 returns mul-result returns-2)
+pub returns : goal.returns
+returns c = rw (le-leb _ 1024 c.if-s-n-gt1024.false) (less_not_most (c.args.f * c.args.p) 32768)
