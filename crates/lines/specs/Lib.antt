@@ -1,4 +1,3 @@
 pub mod Session
 pub mod Promise
-pub mod Laws
 pub mod Maps
