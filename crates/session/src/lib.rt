@@ -1,4 +1,6 @@
 // A session: one line in, its answer out. Who reads lines and writes answers stands on it.
+#![tactic(auto)]
+
 ghost use Rattle.memory.specs.Memory.{memory};
 ghost use Rattle.lines.specs.Promise.{CallAnswered, AnswersLine};
 
@@ -12,7 +14,7 @@ use serving::serve;
 use texts::say_bad_line;
 
 // The head after a line, and where the line's answer ends.
-#[derive(Drop)]
+#[derive(Clone, Copy)]
 pub struct Answered {
     pub head: Head,
     pub end: usize,
