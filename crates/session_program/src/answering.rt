@@ -3,50 +3,57 @@ use crate::input::line_at;
 use crate::{BYTES, FRAMES, INDEX, OUT, PLACES, RAM, RECORDS};
 use memory::Head;
 use session::answer_line;
+use std::io::{ErrorKind, Print};
 
-// The head, where the line that is not whole yet begins, whether more of it came than is kept, and whether all answers were written.
+// Whether answers can be written: they can, they were lost, or their reader has enough.
+#[derive(Clone, Copy, PartialEq, Eq)]
+pub enum Output {
+    Open,
+    Lost,
+    Closed,
+}
+
+// The head, where the line that is not whole yet begins, whether more of it came than is kept, and what became of the answers.
 #[derive(Drop)]
 pub struct Progress {
     pub head: Head,
     pub from: usize,
     pub is_long: bool,
-    pub is_written: bool,
+    pub output: Output,
 }
 
-// Writes the answers before `at`; no place of the buffer stands for answers that were lost. Whoever plays a script hears of it.
-fn write(out: &[u8], at: usize) -> bool {
+// Writes the answers before `at`. Whoever plays a script hears of it if they are lost; a pipe's reader that is gone wants no more of them.
+fn write(rt: &(impl Print + Eprint), out: &[u8], at: usize) -> Output {
     if out.len() < at {
-        return false;
+        return Output::Lost;
     }
-    if io::write_all(1, &out[..at]) {
-        return true;
+    let Err(error) = rt.write_all(&out[..at]) else {
+        return Output::Open;
+    };
+    if error.kind() == ErrorKind::BrokenPipe {
+        return Output::Closed;
     }
-    io::write_all(2, b"session_program: its output could not be written\n");
-    false
-}
-
-// Answers are written when no other may fit; if they are lost, no more are laid down.
-fn written(out: &[u8], at: usize) -> usize {
-    if at < 65_535 {
-        return at;
-    }
-    if write(out, at) {
-        return 0;
-    }
-    usize::MAX
+    let _ = rt.eprintln("session_program: its output could not be written");
+    Output::Lost
 }
 
 // Ends the line of an answer that ends before `at`; answers where the next one begins.
 fn end_line(out: &mut [u8], at: usize) -> usize {
     if out.len() <= at {
-        return written(out, at);
+        return at;
     }
     out[at] = 10;
-    written(out, at + 1)
+    at + 1
+}
+
+// Whether answers are to be written, as no other may fit after them.
+fn is_full(at: usize) -> bool {
+    65_535 <= at
 }
 
 // Answers the lines that are whole among the first n bytes; the last line of all is whole without a line feed, too.
 pub(crate) fn answer_lines(
+    rt: &(impl Print + Eprint),
     head: Head,
     input: &[u8],
     n: usize,
@@ -96,12 +103,24 @@ pub(crate) fn answer_lines(
         at = end_line(out, said.end);
         is_long = false;
         from = line.next;
+        if is_full(at) {
+            let output = write(rt, out, at);
+            if output != Output::Open {
+                return Progress {
+                    head: next,
+                    from,
+                    is_long,
+                    output,
+                };
+            }
+            at = 0;
+        }
     }
-    let is_written = write(out, at);
+    let output = write(rt, out, at);
     Progress {
         head: next,
         from,
         is_long,
-        is_written,
+        output,
     }
 }

@@ -1,21 +1,27 @@
 // Lines from standard input.
 ghost use Rattle.std.specs.Prelude.{◌+◌, ◌<◌, ◌≤◌, length};
 
+use std::io::{Read, Stdin};
+
 // Reads after the first `kept` bytes; answers how many there are then.
-pub(crate) fn read_more(input: &mut [u8], kept: usize) -> usize
+pub(crate) fn read_more(stdin: Stdin, input: &mut [u8], kept: usize) -> usize
     ensures { kept ≤ result }
 {
     if input.len() <= kept {
         return kept;
     }
-    kept + read_some(&mut input[kept..])
+    kept + read_some(stdin, &mut input[kept..])
 }
 
-fn read_some(room: &mut [u8]) -> usize
+// One read; one that fails gives nothing, as at the input's end.
+fn read_some(stdin: Stdin, room: &mut [u8]) -> usize
     ensures { result ≤ length room.old }
 {
-    let got = libc::read(0, room);
-    io::count(got, room)
+    let mut reader = stdin;
+    match reader.read(room) {
+        Ok(n) => n,
+        Err(_) => 0,
+    }
 }
 
 fn least(a: usize, b: usize) -> usize
@@ -49,14 +55,14 @@ fn word_at(input: &[u8], i: usize) -> u64
 // Not 0 if a byte of the word is a line feed; the lowest bit that is set is then the top bit of the first that is one.
 fn feeds_in(word: u64) -> u64 {
     let x = word ^ 0x0a0a_0a0a_0a0a_0a0a;
-    std::num::wrapping_sub_u64(x, 0x0101_0101_0101_0101) & !x & 0x8080_8080_8080_8080
+    x.wrapping_sub(0x0101_0101_0101_0101) & !x & 0x8080_8080_8080_8080
 }
 
 // The byte that has the lowest bit that is set.
 fn lowest_byte(word: u64) -> usize
     ensures { result ≤ 8 }
 {
-    u64::trailing_zeros(word) as usize / 8
+    word.trailing_zeros() as usize / 8
 }
 
 // Past the last place where a whole word begins before `stop`.
@@ -107,7 +113,7 @@ pub struct Line {
     pub is_whole: bool,
 }
 
-fn first_refusal(is_long: bool, from: usize, end: usize) -> usize
+fn first_of(is_long: bool, from: usize, end: usize) -> usize
     requires { from ≤ end }
     ensures { result ≤ end }
 {
@@ -127,7 +133,7 @@ pub(crate) fn line_at(input: &[u8], from: usize, n: usize, is_last: bool, is_lon
             is_whole: false,
         };
     }
-    let first = first_refusal(is_long, from, end);
+    let first = first_of(is_long, from, end);
     if end < n {
         return Line {
             first,

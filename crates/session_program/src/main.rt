@@ -1,14 +1,18 @@
 // Plays a script of calls from standard input, a line each, and answers every line at once: document 01,
 // "One session whole". RAM is zeros at first; the five tables that start doesn't prepare hold garbage.
+#![tactic(auto)]
+
 mod answering;
 mod input;
 
 ghost use Rattle.std.specs.Prelude.{◌<◌};
 
-use answering::answer_lines;
+use answering::{Output, answer_lines};
 use input::{keep_rest, read_more};
-use memory::no_start_lem;
+use memory::no_start;
 use session::LONGEST_MAP;
+use std::io::{Print, Stdin};
+use std::process::ExitCode;
 
 // The bytes of a read and of the answers to it, and the memory that the largest start needs.
 const INPUT: usize = 65_536;
@@ -26,6 +30,9 @@ const PLACES: usize = 1_024;
 const FRAMES: usize = 128;
 
 const RAM: usize = 32_768;
+
+// The status that a shell gives a program whose pipe has no reader any more.
+const CLOSED: u8 = 141;
 
 // Garbage: numbers that could be places or frames.
 fn litter(table: &mut [u32], step: u32) {
@@ -57,6 +64,8 @@ fn turns_left(turns: u64, is_written: bool, is_last: bool) -> u64
 // Reads, answers the lines that are whole and keeps what is left, until the input ends or answers are lost; a proved loop has to end,
 // and no input uses up so many turns.
 fn run(
+    rt: &(impl Print + Eprint),
+    stdin: Stdin,
     input: &mut [u8; INPUT],
     out: &mut [u8; OUT],
     buffer: &mut [u8; BYTES],
@@ -69,15 +78,17 @@ fn run(
     cache: &mut [u32; PLACES],
     link: &mut [u32; FRAMES],
     ram: &mut [u8; RAM],
-) {
-    let mut head = no_start_lem();
+) -> Output {
+    let mut head = no_start();
     let mut kept = 0;
     let mut is_long = false;
+    let mut output = Output::Open;
     let mut turns = u64::MAX;
     while 0 < turns {
-        let n = read_more(input, kept);
+        let n = read_more(stdin, input, kept);
         let is_last = n == kept;
         let done = answer_lines(
+            rt,
             head,
             input,
             lines_end(n, is_last, is_long),
@@ -100,11 +111,13 @@ fn run(
         let rest = keep_rest(input, done.from, n, done.is_long);
         kept = rest.kept;
         is_long = rest.is_long;
-        turns = turns_left(turns, done.is_written, is_last);
+        output = done.output;
+        turns = turns_left(turns, output == Output::Open, is_last);
     }
+    output
 }
 
-fn main() {
+fn main(rt: HostRuntime) -> ExitCode {
     let mut input = [0u8; INPUT];
     let mut out = [0u8; OUT];
     let mut buffer = [0u8; BYTES];
@@ -122,7 +135,9 @@ fn main() {
     litter(&mut stack, 11);
     litter(&mut cache, 13);
     litter(&mut link, 17);
-    run(
+    let output = run(
+        &rt,
+        rt.stdin(),
         &mut input,
         &mut out,
         &mut buffer,
@@ -136,4 +151,8 @@ fn main() {
         &mut link,
         &mut ram,
     );
+    match output {
+        Output::Closed => ExitCode::from(CLOSED),
+        _ => ExitCode::SUCCESS,
+    }
 }
