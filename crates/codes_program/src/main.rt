@@ -1,6 +1,8 @@
 // Plays encoded calls on real buffers: document 01's session, then a write, reads, a list, codes that are no calls,
 // the map, written and read back, and hand-backs. Writes three numbers a call, then the byte buffer and the records.
-use memory::no_start_lem;
+#![tactic(auto)]
+
+use memory::no_start;
 
 fn number(n: u64) {
     io::print_decimal(1, n);
@@ -70,7 +72,7 @@ fn main() {
     let mut link = [1u32; 4];
     let mut ram = [0u8; 800];
     codes::play(
-        no_start_lem(),
+        no_start(),
         &codes,
         &mut replies,
         &mut bytes,
