@@ -1,6 +1,8 @@
 // The board's entrance: the pager's calls with the head lent and changed in place.
 // Only a start and the reading of a map store the whole head. The other calls leave the sizes, a release and a hand-back the first
 // frame never used too, so they store no more than may change: the compiler can't tell head from tables, and would store all.
+#![tactic(auto)]
+
 ghost use Rattle.std.specs.Prelude.{List, ℕ};
 ghost use Rattle.machine.specs.Machine as machine;
 ghost use Rattle.machine.specs.Answers.{done_says, free_says, touched_says, looked_says, released_says, given_back_says, translated_says};
@@ -256,8 +258,7 @@ pub fn write(
     written.answer
 }
 
-// One record a region of a space, ascending. Those after the last stay. All that is decided is decided in crate
-// listing; the borrow checker doesn't cover a slice of structs, so the loop over them is walked by hand.
+// One record a region of a space, ascending. Those after the last stay. All that is decided is decided in crate listing.
 fn list_into(head: Head, space: u32, records: &mut [Region], index: &[u64], count: &[u32]) -> Listed
     ensures { (table helper stack cache link ram : List ℕ) →
         RecordsDid space (memory head index.now count.now table helper stack cache link ram) result records.old
