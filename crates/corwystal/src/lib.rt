@@ -1,4 +1,6 @@
-// The entrance for C and Rust: the board's calls, exported, each answer as numbers. bindings/c/corwystal.h declares them.
+// The entrance for C and Rust: the board's calls, each answer as numbers. Crate corwystal_c exports them.
+#![tactic(auto)]
+
 ghost use Rattle.std.specs.Prelude.{◌≡◌, List, ℕ, take};
 ghost use Rattle.machine.specs.Machine as machine;
 ghost use Rattle.machine.specs.Answers.{done_says, free_says, touched_says, looked_says, released_says, translated_says, copied_says, listed_says, map_written_says};
@@ -28,16 +30,14 @@ use requests::Answer;
 use sizing::Needs;
 
 // What a start of these sizes and the calls after it must be lent.
-#[unsafe(no_mangle)]
-pub extern "C" fn corwystal_sizes(spaces: u32, pages: u32, frames: u32, page: u32) -> Needs
+pub fn corwystal_sizes(spaces: u32, pages: u32, frames: u32, page: u32) -> Needs
     ensures { numbers_of result ≡ needed_for (sizes spaces pages frames page) }
 {
     sizing::needed(spaces, pages, frames, page)
 }
 
 // Sets the sizes: no starts, every frame in the pool. Five tables and the RAM may hold anything.
-#[unsafe(no_mangle)]
-pub extern "C" fn corwystal_start(
+pub fn corwystal_start(
     head: &mut Head,
     spaces: u32,
     pages: u32,
@@ -57,8 +57,7 @@ pub extern "C" fn corwystal_start(
 }
 
 // Adds a start.
-#[unsafe(no_mangle)]
-pub extern "C" fn corwystal_mark(
+pub fn corwystal_mark(
     head: &Head,
     space: u32,
     page: u32,
@@ -76,8 +75,7 @@ pub extern "C" fn corwystal_mark(
 }
 
 // Removes a start whose region has no resident page.
-#[unsafe(no_mangle)]
-pub extern "C" fn corwystal_drop(
+pub fn corwystal_drop(
     head: &Head,
     space: u32,
     page: u32,
@@ -95,8 +93,7 @@ pub extern "C" fn corwystal_drop(
 }
 
 // The page's frame, mapped if need be; a new page reads as zeros.
-#[unsafe(no_mangle)]
-pub extern "C" fn corwystal_touch(
+pub fn corwystal_touch(
     head: &mut Head,
     space: u32,
     page: u32,
@@ -123,8 +120,7 @@ pub extern "C" fn corwystal_touch(
 }
 
 // Whether a page is resident, and its frame. Changes nothing.
-#[unsafe(no_mangle)]
-pub extern "C" fn corwystal_look(
+pub fn corwystal_look(
     head: &Head,
     space: u32,
     page: u32,
@@ -150,8 +146,7 @@ pub extern "C" fn corwystal_look(
 }
 
 // Gives back every page of the region that starts at a page, in constant time.
-#[unsafe(no_mangle)]
-pub extern "C" fn corwystal_release(
+pub fn corwystal_release(
     head: &mut Head,
     space: u32,
     page: u32,
@@ -172,8 +167,7 @@ pub extern "C" fn corwystal_release(
 }
 
 // Hands one page back, in constant time: its region's newest page takes its position, its frame goes to the pool's front.
-#[unsafe(no_mangle)]
-pub extern "C" fn corwystal_give_back(
+pub fn corwystal_give_back(
     head: &mut Head,
     space: u32,
     page: u32,
@@ -200,8 +194,7 @@ pub extern "C" fn corwystal_give_back(
 }
 
 // The frames in the pool. Lent nothing but the head.
-#[unsafe(no_mangle)]
-pub extern "C" fn corwystal_free_count(head: &Head) -> Answer
+pub fn corwystal_free_count(head: &Head) -> Answer
     ensures { Encodes Free free_says (λ a.
         (index count table helper stack cache link ram : List ℕ) →
         Did (λ _. machine.free) (memory head.now index count table helper stack cache link ram) (free_says a)
@@ -211,8 +204,7 @@ pub extern "C" fn corwystal_free_count(head: &Head) -> Answer
 }
 
 // The place in RAM of an address.
-#[unsafe(no_mangle)]
-pub extern "C" fn corwystal_translate(
+pub fn corwystal_translate(
     head: &Head,
     space: u32,
     address: usize,
@@ -238,8 +230,7 @@ pub extern "C" fn corwystal_translate(
 }
 
 // The bytes of a span into the caller's buffer: every page is looked up before the first byte is copied.
-#[unsafe(no_mangle)]
-pub extern "C" fn corwystal_read(
+pub fn corwystal_read(
     head: &Head,
     space: u32,
     address: usize,
@@ -269,8 +260,7 @@ pub extern "C" fn corwystal_read(
 }
 
 // Stores bytes at a span's addresses, mapping pages that are absent: all or nothing.
-#[unsafe(no_mangle)]
-pub extern "C" fn corwystal_write(
+pub fn corwystal_write(
     head: &mut Head,
     space: u32,
     address: usize,
@@ -298,8 +288,7 @@ pub extern "C" fn corwystal_write(
 }
 
 // One record a region of a space, ascending. Records after the last stay.
-#[unsafe(no_mangle)]
-pub extern "C" fn corwystal_list(
+pub fn corwystal_list(
     head: &Head,
     space: u32,
     records: &mut [Region],
@@ -316,8 +305,7 @@ pub extern "C" fn corwystal_list(
 }
 
 // The whole state but for the RAM as a map file at the front of the caller's buffer. The bytes after it stay.
-#[unsafe(no_mangle)]
-pub extern "C" fn corwystal_write_map(
+pub fn corwystal_write_map(
     head: &Head,
     index: &[u64],
     count: &[u32],
@@ -340,8 +328,7 @@ pub extern "C" fn corwystal_write_map(
 }
 
 // Begins anew with the state that a map file describes: all of the file is judged before the first word is stored.
-#[unsafe(no_mangle)]
-pub extern "C" fn corwystal_read_map(
+pub fn corwystal_read_map(
     head: &mut Head,
     file: &[u8],
     index: &mut [u64],
@@ -367,8 +354,7 @@ pub extern "C" fn corwystal_read_map(
 }
 
 // How full a space is, from the contents of a map file alone, whatever follows them: its third word as it stands.
-#[unsafe(no_mangle)]
-pub extern "C" fn corwystal_how_full(space: u32, contents: &[u8]) -> Answer
+pub fn corwystal_how_full(space: u32, contents: &[u8]) -> Answer
     ensures { answer_numbers result ≡ encoded (fullness_of contents.now space) }
 {
     requests::encode_fullness(contents::how_full(space, contents))
