@@ -1,13 +1,16 @@
 // Reads a map file from standard input into tables full of garbage, and writes `no` and the number of its refusal, or `ok`, a blank and the map that
 // is written back, in hex. There is room for 4,096 places and as many frames.
 // With a space as its argument it reads the contents alone, of a map of any size, and writes `pages` and how many the space has, or `no` and the number.
+#![tactic(auto)]
+
 ghost use Rattle.std.specs.Prelude.{◌+◌, ◌≤◌, ◌<◌, length};
 
 use digits::put_hex;
 use fields::{BLANK, Field, number_after_blank};
 use machine::{Done, Fullness, MapWritten};
-use memory::{Head, no_start_lem};
+use memory::{Head, no_start};
 use pager::{how_full, read_map, write_map};
+use std::env::{Env, FillError};
 
 const PLACES: usize = 4_096;
 
@@ -120,7 +123,7 @@ fn tell_file() {
     litter(&mut link, 17);
     let n = io::read_full(0, &mut file);
     let out = read_map(
-        no_start_lem(),
+        no_start(),
         &file[..n],
         &mut index,
         &mut count,
@@ -172,22 +175,37 @@ fn tell_space(text: &[u8]) {
     }
 }
 
+// The bytes of the argument in the room; 0 of one that is longer.
+fn read_argument(rt: &impl Env, room: &mut [u8]) -> usize
+    ensures { result ≤ length room.new }
+{
+    match rt.arg(1, room) {
+        Ok(n) => n,
+        Err(_) => 0,
+    }
+}
+
 // The argument is a number as a session's are, of one to nine digits.
-fn tell_fullness() {
+fn tell_fullness(rt: &impl Env) {
     let mut text = [BLANK; 10];
-    let n = os::arg(1, &mut text[1..]);
+    let n = read_argument(rt, &mut text[1..]);
     let end = n + 1;
     tell_space(&text[..end]);
 }
 
-fn main() {
-    let words = os::arg_count();
-    if words < 2 {
+// Whether the command line has an argument k, of whatever length; the program's own name is number 0.
+fn is_given(rt: &impl Env, k: usize) -> bool {
+    let mut room = [0u8; 1];
+    !matches!(rt.arg(k, &mut room), Err(FillError::NotPresent))
+}
+
+fn main(rt: HostRuntime) {
+    if !is_given(&rt, 1) {
         tell_file();
         return;
     }
-    if words == 2 {
-        tell_fullness();
+    if !is_given(&rt, 2) {
+        tell_fullness(&rt);
         return;
     }
     print_usage();
