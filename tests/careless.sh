@@ -1,13 +1,11 @@
 #!/usr/bin/env bash
 # Builds libraries that no kernel can have, which the tests of the object code and of the board must find wrong:
-#     target/ordinary/libcorwystal.a    as `rt staticlib` alone builds it, without what bindings/library adds for a kernel. What the compiler then does
-#                                       differs from version to version of the source; today start and write use vector registers
+#     target/ordinary/libcorwystal.a    as `rt lib --cpu x86-64` builds it, without what bindings/library adds for a kernel. What the compiler then does
+#                                       differs from version to version of the source; today start, write and write_map use vector registers
 #     target/careless/libcorwystal.a    the kernel's, with a release that keeps one argument below the stack pointer and a look that keeps one in a
 #                                       vector register over some hundred instructions, as compilers do where nobody tells them of kernels
 set -euo pipefail
 cd "$(dirname "${BASH_SOURCE[0]}")/.."
-# in others some awks drop lines of the kit's
-export LC_ALL=C
 
 fail() {
     echo "careless: $*" >&2
@@ -15,13 +13,13 @@ fail() {
 }
 
 ordinary() {
-    local made=target/ordinary
+    local made=target/ordinary from
     mkdir -p "$made"
-    tools/prove corwystal "$made/log" careless || fail "$(tail -n 5 "$made/log")"
-    cmp -s target/stamp/corwystal "$made/stamp" && [ -e "$made/libcorwystal.a" ] && return
-    rt staticlib corwystal > "$made/log" 2>&1 || fail "$(tail -n 5 "$made/log")"
-    mv target/staticlib/libcorwystal.a "$made/"
-    cp target/stamp/corwystal "$made/stamp"
+    tools/prove corwystal_c "$made/log" careless || fail "$(tail -n 5 "$made/log")"
+    from=$(head -n 1 target/proved/corwystal_c && sha256sum tools/archive)
+    [ -e "$made/libcorwystal.a" ] && [ -e "$made/from" ] && [ "$from" = "$(cat "$made/from")" ] && return
+    tools/archive corwystal_c "$made/libcorwystal.a" "$made/log" || fail "$(tail -n 5 "$made/log")"
+    echo "$from" > "$made/from"
 }
 
 careless() {

@@ -90,4 +90,4 @@ examples/board/build "$careless" "$made/kernel"
 python3 examples/board/host.py "$made/kernel" day --aim --options vectors > "$made/bad" 2>&1 && fail "the day finds nothing wrong with the careless library"
 
 grep -vE '^scene' "$made/good"
-echo "board: the library as rt staticlib alone builds it is found wrong, and one with a release and a look that are careless of interrupts"
+echo "board: the library as rt lib builds it is found wrong, and one with a release and a look that are careless of interrupts"

@@ -13,56 +13,58 @@ sys.dont_write_bytecode = True
 import aims  # noqa: E402
 
 HELD = {
-    # what, by which engine: held instead               counted on 2026-11-17, and the aim
-    ("touch of an absent page", "checked"): 115,        # 114.3, aim 125; 112.5 before C by hand got 3 or 4 instructions shorter
-    ("touch of an absent page", "clang_checked"): 117,  # 116.2, aim 135; 114.3 before, the same
-    ("look at an absent page", "checked"): 114,         # 113.5, aim 125
-    ("look at an absent page", "clang_checked"): 115,   # 114.5, aim 135
-    ("all actions of the workload", "method"): 167,     # 165.8 of the first 100,000, aim 200
-    ("give back of a page", "checked"): 103,            # 102.4 of the newest, 94.7 elsewhere, aim 115
-    ("give back of a page", "clang_checked"): 110,      # 109.3 and 102.9, aim 125
-    ("mark", "checked"): 117,                           # 116.2, aim 115; 2 of its 129 instructions too many
-    ("write of a new page", "clang_checked"): 112,      # 111.9, aim 110; a find's answer goes through memory
+    # what, by which engine: held instead               counted on 2026-11-26, and the aim. Today's kit compiles the library with other words than the
+    #                                                   kit of 2026-11-17 did: most calls came out shorter, loops over several pages or pairs longer
+    ("touch of an absent page", "checked"): 114,        # 113.2, aim 125
+    ("touch of an absent page", "clang_checked"): 116,  # 115.1, aim 135
+    ("look at an absent page", "checked"): 113,         # 112.6, aim 125
+    ("look at an absent page", "clang_checked"): 114,   # 113.6, aim 135
+    ("all actions of the workload", "method"): 165,     # 164.4 of the first 100,000, aim 200
+    ("give back of a page", "checked"): 101,            # 100.0 of the newest, aim 115
+    ("give back of a page", "clang_checked"): 108,      # 106.8, aim 125
+    ("write of a new page", "clang_checked"): 112,      # 111.4, aim 110; a find's answer goes through memory
     # a find for each page that is mapped, where C with the checks makes one for the span and then tests a bit a page
-    ("write of a page across two new ones", "checked"): 124,        # 123.1, aim 110
-    ("write of a page across two new ones", "clang_checked"): 120,  # 119.9, aim 110
-    ("write of 64 KiB of new pages", "checked"): 131,   # 130.3, aim 110
-    ("write of 64 KiB of new pages", "clang_checked"): 127,         # 126.9, aim 110
-    ("write of 1 MiB of new pages", "checked"): 136,    # 135.1, aim 110
-    ("write of 1 MiB of new pages", "clang_checked"): 132,          # 131.5, aim 110
+    ("write of a page across two new ones", "checked"): 127,        # 126.0, aim 110; 123.1 by the kit of 2026-11-17
+    ("write of a page across two new ones", "clang_checked"): 123,  # 122.8, aim 110; 119.9 by that kit
+    ("write of 64 KiB of new pages", "checked"): 134,   # 133.4, aim 110; 130.3 by that kit
+    ("write of 64 KiB of new pages", "clang_checked"): 131,         # 130.0, aim 110; 126.9 by that kit
+    ("write of 1 MiB of new pages", "checked"): 139,    # 138.6, aim 110; 135.1 by that kit
+    ("write of 1 MiB of new pages", "clang_checked"): 135,          # 134.8, aim 110; 131.5 by that kit
     # by vector stores a memset of a page is 247 instructions, and C without checks takes 2.00 x these: docs/MEASUREMENTS.md has the times
-    ("write of 16 bytes into a new page", "plain"): 227,            # 226.3, aim 130
+    ("write of 16 bytes into a new page", "plain"): 226,            # 225.1, aim 130
 }
 # The same of the map file's two calls, each file for itself: held against C with the checks by gcc and by clang, where the aim is 200. memset's
 # instructions count by aims.scale; where it is the processor's block store, the files of about 1 KiB come out up to 1.3 hundredths off these.
+# By the kit of 2026-11-17 a read took 137 and 155 of the file of regions of 15,132 bytes, 163 and 190 of that of pairs of 16,436, 103 and 139 of that of
+# the pool; a write of regions 130 and 164.
 MAPS = {
-    # call and file, bytes: held by gcc, by clang   counted on 2026-11-17
-    ("read map regions", 972): (133, 150),          # 132.2 and 149.1
-    ("read map regions", 15132): (138, 156),        # 137.0 and 154.9
-    ("read map regions", 230172): (138, 157),       # 137.5 and 156.9
-    ("read map regions", 3670812): (142, 162),      # 141.3 and 161.3
-    ("read map pairs", 948): (163, 189),            # 161.6 and 187.4
-    ("read map pairs", 16436): (163, 191),          # 162.5 and 190.4
-    ("read map pairs", 262196): (165, 194),         # 164.6 and 193.1
-    ("read map pairs", 524340): (97, 104),          # 96.8 and 103.8
-    ("read map pool", 1000): (109, 141),            # 108.5 and 140.8
-    ("read map pool", 16424): (104, 139),           # 102.9 and 138.8
-    ("read map pool", 262184): (108, 146),          # 107.2 and 145.0
-    ("read map board", 1084): (149, 175),           # 148.5 and 174.3
-    ("read map board", 406300): (148, 180),         # 147.7 and 179.2
-    ("write map regions", 972): (130, 162),         # 129.1 and 161.6
-    ("write map regions", 15132): (130, 165),       # 129.9 and 164.0
-    ("write map regions", 230172): (133, 173),      # 132.9 and 172.2
-    ("write map regions", 3670812): (134, 173),     # 133.1 and 172.7
-    ("write map pairs", 948): (176, 174),           # 175.4 and 173.9
+    # call and file, bytes: held by gcc, by clang   counted on 2026-11-26
+    ("read map regions", 972): (133, 149.5),        # 131.2 and 148.0
+    ("read map regions", 15132): (139, 157),        # 138.0 and 156.1
+    ("read map regions", 230172): (139, 158),       # 138.0 and 157.5
+    ("read map regions", 3670812): (139, 158),      # 138.1 and 157.7
+    ("read map pairs", 948): (171.5, 198.5),        # 169.8 and 197.0
+    ("read map pairs", 16436): (172, 202),          # 171.7 and 201.2; the kit's other words made it dearer
+    ("read map pairs", 262196): (173, 202),         # 172.1 and 201.8; the same
+    ("read map pairs", 524340): (98, 105),          # 97.8 and 104.9
+    ("read map pool", 1000): (118, 152.5),          # 116.3 and 150.9
+    ("read map pool", 16424): (112, 151),           # 111.5 and 150.5
+    ("read map pool", 262184): (112, 151),          # 111.6 and 150.9
+    ("read map board", 1084): (155.5, 182.5),       # 154.0 and 180.8
+    ("read map board", 406300): (154, 187),         # 153.7 and 186.5
+    ("write map regions", 972): (133, 166),         # 131.8 and 164.9
+    ("write map regions", 15132): (133, 168),       # 132.9 and 167.8
+    ("write map regions", 230172): (137, 177),      # 136.5 and 176.9
+    ("write map regions", 3670812): (137, 178),     # 136.8 and 177.6
+    ("write map pairs", 948): (176, 174),           # 174.5 and 173.0
     ("write map pairs", 16436): (189, 188),         # 188.4 and 187.3
     ("write map pairs", 262196): (190, 189),        # 189.2 and 188.2
     ("write map pairs", 524340): (185, 181),        # 184.7 and 180.9
-    ("write map pool", 1000): (109, 124),           # 108.4 and 123.3
-    ("write map pool", 16424): (107, 131),          # 106.4 and 130.2
+    ("write map pool", 1000): (109, 124),           # 107.8 and 122.6
+    ("write map pool", 16424): (107, 131),          # 106.4 and 130.1
     ("write map pool", 262184): (107, 131),         # 106.3 and 130.7
-    ("write map board", 1084): (139, 136),          # 138.2 and 136.0
-    ("write map board", 406300): (154, 160),        # 153.1 and 159.5
+    ("write map board", 1084): (138, 136),          # 136.9 and 134.8
+    ("write map board", 406300): (154, 160),        # 153.0 and 159.5
 }
 HELD |= {(f"{what} of {size:,} bytes", engine): most for (what, size), both in MAPS.items() for engine, most in zip(("checked", "clang_checked"), both)}
 # What is held beside the aims: hundredths of the same work by another engine, and which functions do it.

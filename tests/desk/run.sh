@@ -47,41 +47,62 @@ make_program() { # FILE
     chmod +x "$1"
 }
 
+# An rt that knows of no proof yet, from standard input: what it does when it is to prove and build.
 make_rt() {
-    make_program "$bed/kit/rt"
+    rm -rf "$bed/target/proved"
+    { echo '[ "$1" != version ] || exit 0' && cat; } | make_program "$bed/kit/rt"
 }
 
 # An rt for which nothing has changed.
 make_quick_rt() {
     make_rt << 'END'
-echo 'rt: session_program proved (unchanged since it was last proved)'
-echo 'rt: ok, 1 crates proved'
+echo 'rt: nothing has changed since the last proved build, by out/session_program.stamp, so nothing is checked now'
+echo 'rt: running out/session_program; to give it other input, run that file yourself'
 END
 }
 
-# An rt that is silent at first, then proves 23 crates in a second.
-make_slow_rt() {
-    make_rt << 'END'
+# An rt that is silent at first, then proves some crates, a dozen in half a second.
+make_slow_rt() { # CRATES
+    { echo "crates='$*'" && cat << 'END'; } | make_rt
 sleep 3.2
-for n in {1..23}; do
-    echo "rt: c$n proved (1 s)"
+for crate in $crates; do
+    echo "rt: chose --jobs 2 for $crate"
+    echo 'logic=proved functions=1'
     sleep 0.04
 done
-echo 'rt: ok, 23 crates proved'
+echo 'rt: running out/session_program; to give it other input, run that file yourself'
 END
 }
 
-# the real program; its number of crates is held to the progress below
+# The crates of crates.txt that a crate needs, in the order in which rt proves them.
+needed() { # CRATE
+    python3 - "$1" << 'END'
+import sys
+lines = [line.split(":") for line in open("crates.txt", encoding="utf-8") if line.strip() and not line.startswith("#")]
+uses = {name.split()[0]: used.split() for name, used in lines}
+order = []
+def visit(name):
+    for used in uses[name]:
+        if used in uses:
+            visit(used)
+    order.extend([name] * (name not in order))
+visit(sys.argv[1])
+print(*order)
+END
+}
+
+# the real program
 real=$PATH
 cd "$root"
 limit=600 run ./session tests/session/session.txt < /dev/null
 expect "document 01's session" 0 "$(cat tests/session/session.out)" "*"
-crates=$(sed -n 's/^rt: ok, \([0-9]*\) crates proved$/\1/p' target/session.log)
 
-mkdir -p "$bed/kit" "$bed/target/bin" "$bed/other place"
+mkdir -p "$bed/kit" "$bed/target" "$bed/crates/session_program"/{src,out} "$bed/other place"
 chmod 755 "$bed"
 cp -r "$root/session" "$root/tools" "$bed/"
 echo 'session_program: io' > "$bed/crates.txt"
+touch "$bed/crates/session_program/src/main.rt"
+program=crates/session_program/out/session_program
 make_program "$bed/fake-program" << 'END'
 while read -r line; do
     case $line in
@@ -92,7 +113,7 @@ while read -r line; do
     esac
 done
 END
-cp "$bed/fake-program" "$bed/target/bin/session_program"
+cp "$bed/fake-program" "$bed/$program"
 echo one > "$bed/calls"
 cd "$bed"
 PATH=$bed/kit:$PATH
@@ -138,7 +159,7 @@ chmod a-w target
 if $nobody test -r "$bed/calls" 2> /dev/null; then
     run $nobody ./session secret < /dev/null
     expect_refusal "a file that can't be read" "secret can't be read"
-    echo 'touch proving' | make_rt
+    echo "touch '$bed/proving'" | make_rt
     run $nobody ./session calls < /dev/null
     expect_no_log "a target that can't be written"
 else
@@ -147,7 +168,7 @@ fi
 chmod u+w target
 
 # the log
-echo 'touch proving' | make_rt
+echo "touch '$bed/proving'" | make_rt
 for place in /dev/full /dev/null "$bed/kit"; do
     ln -sfn "$place" target/session.log
     run ./session calls < /dev/null
@@ -165,48 +186,74 @@ mv kept target
 
 # no old program
 make_rt << 'END'
-echo 'rt: FAILED: session_program'
+echo 'logic=not-proved'
 exit 1
 END
 run ./session calls < /dev/null
-expect "no proof" 1 "" "session: target/bin/session_program could not be built*$bed/target/session.log*"
-grep -q '^rt: FAILED: session_program' target/session.log || fail "no proof: the log doesn't say why"
-echo 'echo "rt: session_program proved (1 s)"' | make_rt
+expect "no proof" 1 "" "session: session_program could not be built*$bed/target/session.log*"
+grep -q '^logic=not-proved' target/session.log || fail "no proof: the log doesn't say why"
+echo 'echo "logic=proved functions=1"' | make_rt
 run ./session calls < /dev/null
-expect "a log that got half of the words" 1 "" "session: target/bin/session_program could not be built*"
-echo 'echo "rt: ok, 1 crates proved" && exit 1' | make_rt
+expect "a log that got half of the words" 1 "" "session: session_program could not be built*"
+echo 'echo "rt: running out/session_program;" && exit 1' | make_rt
 run ./session calls < /dev/null
-expect "a status of rt's" 1 "" "session: target/bin/session_program could not be built*"
+expect "a status of rt's" 1 "" "session: session_program could not be built*"
 mkdir few
 for tool in bash env dirname readlink; do
     ln -s "$(command -v "$tool")" few/
 done
 run env PATH="$bed/few" ./session calls < /dev/null
 expect "no rt" 1 "" "session: the Rattle kit's command rt is not on the PATH: README.md *"
-mkdir target/stamp
-rm target/bin/session_program
+rm "$program"
 make_quick_rt
 run ./session calls < /dev/null
-expect "no program" 1 "" "session: target/bin/session_program could not be built*"
-touch target/stamp/session_program
+expect "no program" 1 "" "session: session_program could not be built*"
 make_rt << 'END'
-[ -e target/stamp/session_program ] || cp fake-program target/bin/session_program
-echo 'rt: ok, 1 crates proved'
+cp ../../fake-program out/session_program
+echo 'rt: running out/session_program;'
 END
 run ./session calls < /dev/null
 expect "a program that went" 0 "played one" ""
 
-# how rt is run: in the root, in the C locale, away from the input, and one at a time
+# what stands as it was proved is proved no second time; what doesn't is: another program, another file of the crate, another kit
 make_rt << 'END'
-[ "$*" = 'check session_program' ] && [ -e crates.txt ] && [ "$LC_ALL" = C ] && [ -z "$(cat)" ] && mkdir alone || exit 1
+echo >> ../../proofs
+cp ../../fake-program out/session_program
+echo 'rt: running out/session_program;'
+END
+proofs() { # CASE NUMBER
+    run ./session calls < /dev/null
+    expect "$1" 0 "played one" ""
+    [ "$(wc -l < proofs)" = "$2" ] || fail "$1: $(wc -l < proofs) proofs, not $2"
+}
+proofs "a first proof" 1
+proofs "nothing is changed" 1
+echo 'echo another' > "$program"
+proofs "another program" 2
+echo changed > crates/session_program/src/main.rt
+proofs "another file" 3
+sed -i 's/|| exit 0/|| { echo other \&\& exit; }/' kit/rt
+proofs "another kit" 4
+proofs "nothing is changed any more" 4
+make_rt << 'END'
+echo changed again > src/main.rt
+echo 'rt: running out/session_program;'
+END
+run ./session calls < /dev/null
+expect "a file that is changed meanwhile" 1 "" "session: session_program could not be built*"
+
+# how rt is run: in the crate's folder, away from the input, and one at a time
+make_rt << 'END'
+[ "$*" = run ] && [ "${PWD##*/}" = session_program ] && [ -z "$(cat)" ] && mkdir ../alone || exit 1
 sleep 0.5
-rmdir alone
-echo 'rt: ok, 1 crates proved'
+rmdir ../alone
+echo 'rt: running out/session_program;'
 END
 cd "other place"
 run env LC_ALL=C.UTF-8 ./s <<< locale
 expect "rt's surroundings" 0 "locale C.UTF-8" ""
 cd "$bed"
+rm -r target/proved
 ./session calls > first 2>&1 < /dev/null &
 run ./session calls < /dev/null
 expect "two at once" 0 "played one" ""
@@ -217,7 +264,7 @@ make_quick_rt
 run ./session <<< $'one\nlost\ntwo'
 expect "answers lost" 1 "played one" $'session_program: its output could not be written\nsession: answers are lost: *'
 run ./session <<< $'one\nkilled\ntwo'
-expect "a program killed" 1 "played one" "session: something ended target/bin/session_program, with status 137: *"
+expect "a program killed" 1 "played one" "session: something ended session_program, with status 137: *"
 run bash -c './session calls < /dev/null >&-'
 expect "a closed output" 1 "" "session: standard output is closed*"
 run bash -c 'yes | ./session | head -n 1; exit "${PIPESTATUS[1]}"'
@@ -239,7 +286,7 @@ expect "Ctrl-C while it plays" 130 "$hint*played one*" ""
 # progress, of as many crates as the program needs
 make_rt << 'END'
 sleep 60 &
-echo $! > prover
+echo $! > ../../prover
 wait
 END
 # like a user's shell, it outlives a session that Ctrl-C ends
@@ -254,16 +301,25 @@ exit "$status"
 END
 run "$here/terminal.py" started '\x03' -- ./shell
 expect "Ctrl-C while it proves" 130 $'started\r\n^C' ""
-make_slow_rt
-printf '%s\n' '# NAME: uses' 'c1:' 'c2: c1 bytes' 'unneeded: c1' 'session_program: c3 io libc' 'c3: c2 c1 c4' 'c4: c2' > crates.txt
+{
+    printf '%s\n' '# NAME: uses' 'c1:' 'c2: c1 bytes' 'unneeded: c1' 'session_program: c3 c22 io' 'c3: c2 c1 c4' 'c4 staticlib: c2' 'c5: c4'
+    for n in {6..22}; do
+        echo "c$n: c$((n - 1))"
+    done
+} > crates.txt
+make_slow_rt $(needed session_program)
 run ./session calls < /dev/null
 proving="session: proving session_program and all that it needs*$bed/target/session.log"
-expect "progress in a file" 0 "played one" "$proving"$'\n'"session: 1? of 5 crates proved, * s*"
+ten="session: 1? of 23 crates proved, the last one c*; * s"
+expect "progress in a file" 0 "played one" "$proving"$'\n'"$ten"$'\n'"session: 2? of 23 crates proved, the last one *; * s"
 [ "$(wc -l < err)" = 3 ] || fail "progress in a file: not a line for ten crates: $(cat err)"
 cp "$root/crates.txt" .
+needed=$(needed session_program)
+crates=$(wc -w <<< "$needed")
+make_slow_rt $needed
 run "$here/terminal.py" -- ./session calls
 again=$'\r'"session: * of $crates crates proved"
-expect "progress at a terminal" 0 "$proving*$again*$again, the last one c23; * s*played one*" ""
+expect "progress at a terminal" 0 "$proving*$again*$again, the last one session_program; * s*played one*" ""
 
 # last, as it needs a program that says so: a full disk
 PATH=$real

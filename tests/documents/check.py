@@ -6,14 +6,14 @@
 
   - No line is longer than 160 characters, but for the tables of docs/MEASUREMENTS.md that bench/report.py writes.
   - Every file or folder that a document names is there. Named is what stands in backticks or a link and has a slash or a known ending, and what
-    stands anywhere else and has both. What is under target/ is built, and so exempt; patterns are too. A link to a heading finds it.
+    stands anywhere else and has both. What is under target/ or a crate's out/ is built, and so exempt; patterns are too. A link to a heading finds it.
   - Every name in backticks (of a definition, a theorem, a function, a crate ..) is a word of the sources; the parts of `crate::function` stand in
     one crate or folder, those of `Record.field` in a file that declares the record, and `names` with a file in brackets after them in that file.
   - Every command in an indented or fenced block that starts with a program of this repository names one that is there and can be run, and is in
     one of two lists: those that are run here, and those that are not, with the reason.
   - Every session that a document prints, a line and its answer in columns, is played, and answered so.
   - README.md's list of crates has each of crates.txt once, above those that it uses or before them in its line.
-docs/landings tells of the past: only its lines are measured.
+docs/landings and docs/PORT.md tell of the past: only their lines are measured.
 """
 import os
 import re
@@ -29,7 +29,7 @@ OURS = "tests/documents"  # its lists of words are no source of names
 IN_CRATES = ("specs", "src", "proofs", "must-fail")
 
 # Words in backticks that are no names of ours.
-NO_NAMES = {"endbr64", "tie.spec"}
+NO_NAMES = {"endbr64"}
 # Names that docs/CHANGES.md tells of and that are gone: another document or a source that has one is told.
 GONE = {"corwystal_free", "corwystal_board_free", "Pager::free"}
 
@@ -59,13 +59,13 @@ NOT_RUN = [
 def files_below(folder):
     """Files below a folder of the repository, by their names from the root on."""
     for where, folders, names in os.walk(os.path.join(ROOT, folder)):
-        folders[:] = sorted(f for f in folders if f not in (".git", "target"))
+        folders[:] = sorted(f for f in folders if f not in (".git", "target", "out"))
         for name in sorted(names):
             yield os.path.relpath(os.path.join(where, name), ROOT)
 
 
 def words_of(path):
-    """A source's words. In Rattle `demand-3` is one; elsewhere a file's or a program's name with dots is one too, and so are the parts of all."""
+    """A source's words. In Rattle `returns-clause` is one; elsewhere a file's or a program's name with dots is one too, and so are the parts of all."""
     with open(os.path.join(ROOT, path), encoding="utf-8", errors="replace") as source:
         text = source.read()
     found = {word.strip("-'") for word in re.findall(r"[^\W\d][\w'-]*", text)}
@@ -94,7 +94,7 @@ class Repository:
         self.words = set().union(*self.units.values())
         with open(os.path.join(ROOT, "crates.txt"), encoding="utf-8") as listed:
             lines = [line.split(":") for line in listed if line.strip() and not line.startswith("#")]
-        self.uses = {name.strip(): used.split() for name, used in lines}
+        self.uses = {name.split()[0]: used.split() for name, used in lines}
 
     def has(self, path):
         return os.path.exists(os.path.join(ROOT, path))
@@ -102,7 +102,7 @@ class Repository:
     def is_program(self, word):
         """Whether a command's first word is a program of ours, there or not: in one of our folders, and not built."""
         folder = word.split("/")[0]
-        return re.fullmatch(r"[\w.-]+(/[\w.-]+)+", word) is not None and folder != "target" and os.path.isdir(os.path.join(ROOT, folder))
+        return re.fullmatch(r"[\w.-]+(/[\w.-]+)+", word) is not None and not is_built(word) and os.path.isdir(os.path.join(ROOT, folder))
 
     def words_in(self, path):
         """The words of a file, named from the root or from crates/ on; none if it isn't there."""
@@ -192,10 +192,14 @@ def is_path(word):
     return has_slash and re.fullmatch(r"(\w|\d+)(/(\w|\d+))+", word) is None or has_ending(word)
 
 
+def is_built(path):
+    return re.match(r"(\./)?(target|(crates/)?\w+/out)(/|$)", path) is not None
+
+
 def is_exempt(path):
     """Built, a pattern, of another place than this repository, or with a word to be filled in."""
     parts = path.split("/")
-    return (re.sub(r"^\./", "", path).startswith("target/") or path == "target" or re.search(r"[*<>$~]|\.\.", path) is not None
+    return (is_built(path) or re.search(r"[*<>$~]|\.\.", path) is not None
             or re.match(r"/(usr|dev)\b|https?:", path) is not None or any(re.fullmatch(r"[A-Z]{2,}", part) for part in parts))
 
 
@@ -310,7 +314,7 @@ class Check:
             self.tell(document, line, f"{text}: a command that {OURS}/check.py doesn't know; mend it, or add it to RUN or to NOT_RUN there")
             return None
         program = os.path.join(ROOT, words[0])
-        if "/" in words[0] and not words[0].startswith("target/"):
+        if "/" in words[0] and not is_built(words[0]):
             if not os.path.isfile(program):
                 self.tell(document, line, f"{words[0]}: there is no such program; name one that is there")
                 return None
@@ -367,7 +371,7 @@ class Check:
         sessions = [b for b in blocks if b[0][1][0].startswith("start ") and all(len(columns) > 1 for _, columns in b)]
         for block in sessions:
             script = "".join(columns[0] + "\n" for _, columns in block)
-            program = os.path.join(ROOT, "target/bin/session_program")
+            program = os.path.join(ROOT, "crates/session_program/out/session_program")
             answers = subprocess.run([program], input=script, capture_output=True, text=True, timeout=60).stdout.splitlines()
             for (line, columns), answer in zip(block, answers + [""] * len(block)):
                 if answer != columns[1]:
@@ -384,7 +388,7 @@ def main():
     for name in sorted(f for f in files_below(".") if f.endswith(".md")):
         with open(os.path.join(folder, name), encoding="utf-8") as text:
             documents.append(Document(name, text.read().split("\n")))
-    told = [d for d in documents if not d.name.startswith("docs/landings/")]
+    told = [d for d in documents if not d.name.startswith(("docs/landings/", "docs/PORT"))]
     check = Check(told, Repository())
     for document in documents:
         check.lines(document)

@@ -6,7 +6,7 @@
 set -euo pipefail
 here=$(cd "$(dirname "${BASH_SOURCE[0]}")" && pwd)
 cd "$here/../.."
-program=target/bin/mapread
+program=crates/mapread/out/mapread
 # the room of mapread, and of histories: places and frames
 room='4096 4096'
 places=130
@@ -127,7 +127,7 @@ by-hand)
 broken) broken ;;
 *)
     [ $# = 0 ] || program=$1
-    [ -x "$program" ] || fail "there is no program $program; rt check mapread builds it"
+    [ -x "$program" ] || fail "there is no program $program; rt run in crates/mapread builds it"
     hold self
     # shellcheck disable=SC2086 # two words
     hold each "$program" $room

@@ -1,12 +1,12 @@
 #!/usr/bin/env bash
 # Plays the scripts of scripts.rs on the program session_program and on session.rs, the plain machine, and holds their answers to each
-# other byte for byte. `run.sh PROGRAM` tries another program than target/bin/session_program, `run.sh broken` the scripts themselves,
+# other byte for byte. `run.sh PROGRAM` tries another program than crates/session_program/out/session_program, `run.sh broken` the scripts themselves,
 # on players that are wrong in one way each (wrong.rs).
 set -euo pipefail
 # bytes, not letters: the scripts aren't all text
 export LC_ALL=C
 here=$(cd "$(dirname "${BASH_SOURCE[0]}")" && pwd)
-program=${1:-$here/../../target/bin/session_program}
+program=${1:-$here/../../crates/session_program/out/session_program}
 made=$(mktemp -d)
 trap 'rm -rf "$made"' EXIT
 
@@ -84,7 +84,7 @@ count() {
     grep -cxE "$1" "$made/answers" || true
 }
 
-[ "${1:-}" = broken ] || [ -x "$program" ] || fail "there is no program ${program#"$here/../../"}; rt check session_program builds it"
+[ "${1:-}" = broken ] || [ -x "$program" ] || fail "there is no program ${program#"$here/../../"}; rt run in crates/session_program builds it"
 mkdir "$made/scripts" "$made/program" "$made/independent"
 rustc -O --edition 2021 --check-cfg 'cfg(broken)' -o "$made/session" "$here/session.rs"
 rustc -O --edition 2021 -o "$made/write-scripts" "$here/scripts.rs"

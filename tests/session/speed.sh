@@ -1,9 +1,9 @@
 #!/usr/bin/env bash
 # Measures session_program against session.rs on one script of 1,000,000 lines: both in turn, several times, and the ratio of
-# their best times. `speed.sh PROGRAM` tries another program than target/bin/session_program. No part of the gate.
+# their best times. `speed.sh PROGRAM` tries another program than crates/session_program/out/session_program. No part of the gate.
 set -euo pipefail
 here=$(cd "$(dirname "${BASH_SOURCE[0]}")" && pwd)
-program=${1:-$here/../../target/bin/session_program}
+program=${1:-$here/../../crates/session_program/out/session_program}
 rounds=7
 made=$(mktemp -d)
 trap 'rm -rf "$made"' EXIT
@@ -24,7 +24,7 @@ least() {
     printf '%s\n' "$@" | sort -n | head -n 1
 }
 
-[ -x "$program" ] || fail "there is no program ${program#"$here/../../"}; rt check session_program builds it"
+[ -x "$program" ] || fail "there is no program ${program#"$here/../../"}; rt run in crates/session_program builds it"
 rustc -O --edition 2021 --check-cfg 'cfg(broken)' -o "$made/session" "$here/session.rs"
 rustc -O --edition 2021 -o "$made/write-scripts" "$here/scripts.rs"
 "$made/write-scripts" --million "$made/million.txt"
