@@ -4,7 +4,7 @@
 # those of session_program go. `bench/lines.sh counts` prints the three counts only, and holds no answers to each other but the script's.
 set -euo pipefail
 cd "$(dirname "${BASH_SOURCE[0]}")/.."
-program=target/bin/session_program
+program=crates/session_program/out/session_program
 lines=20000
 made=$(mktemp -d)
 trap 'rm -rf "$made"' EXIT
@@ -41,9 +41,9 @@ a_line() { # PROGRAM PROFILE
     echo $(((all - none) / lines))
 }
 
-[ -x "$program" ] || fail "there is no $program; rt check session_program builds it"
+[ -x "$program" ] || fail "there is no $program; tools/prove session_program target/session.log lines builds it"
 player "$made/by-gcc" gcc -Wall -Wextra
-player "$made/by-clang" "$(dirname "$(dirname "$(rt doc)")")/on/$(uname -m)/toolchain/bin/clang" --no-default-config
+player "$made/by-clang" "$(dirname "$(rt doc)")/toolchain/bin/clang" --no-default-config
 if [ "${1:-}" != counts ]; then
     for by in gcc clang; do
         tests/session/run.sh "$made/by-$by" > "$made/agreed"
