@@ -87,7 +87,12 @@ if grep -E '^scene' "$made/bad" | grep -vE '^scene (release|look):' | grep -vE '
     fail "the sweep finds more wrong with the careless library than there is: $(head -n 3 "$made/more")"
 fi
 examples/board/build "$careless" "$made/kernel"
-python3 examples/board/host.py "$made/kernel" day --aim --options vectors > "$made/bad" 2>&1 && fail "the day finds nothing wrong with the careless library"
+# When a day's interrupt hits a careless instruction is left to chance, and now and then a day passes without: then another seed's day is tried.
+found=
+for seed in 1 2 3 4 5; do
+    python3 examples/board/host.py "$made/kernel" day --aim --seed "$seed" --options vectors > "$made/bad" 2>&1 || { found=$seed && break; }
+done
+[ -n "$found" ] || fail "the day finds nothing wrong with the careless library, by five seeds"
 
 grep -vE '^scene' "$made/good"
 echo "board: the library as rt lib builds it is found wrong, and one with a release and a look that are careless of interrupts"
