@@ -13,58 +13,55 @@ sys.dont_write_bytecode = True
 import aims  # noqa: E402
 
 HELD = {
-    # what, by which engine: held instead               counted on 2026-11-26, and the aim. Today's kit compiles the library with other words than the
-    #                                                   kit of 2026-11-17 did: most calls came out shorter, loops over several pages or pairs longer
-    ("touch of an absent page", "checked"): 114,        # 113.2, aim 125
-    ("touch of an absent page", "clang_checked"): 116,  # 115.1, aim 135
-    ("look at an absent page", "checked"): 113,         # 112.6, aim 125
-    ("look at an absent page", "clang_checked"): 114,   # 113.6, aim 135
-    ("all actions of the workload", "method"): 165,     # 164.4 of the first 100,000, aim 200
-    ("give back of a page", "checked"): 101,            # 100.0 of the newest, aim 115
-    ("give back of a page", "clang_checked"): 108,      # 106.8, aim 125
-    ("write of a new page", "clang_checked"): 112,      # 111.4, aim 110; a find's answer goes through memory
+    # what, by which engine: held instead               counted on 2026-11-27, after the design pass, and the aim
+    ("touch of an absent page", "checked"): 117,        # 116.9, aim 125; a refusal as a value of its own
+    ("touch of an absent page", "clang_checked"): 119,  # 118.9, aim 135; a refusal as a value of its own
+    ("look at an absent page", "checked"): 108,         # 107.2, aim 125
+    ("look at an absent page", "clang_checked"): 109,   # 108.2, aim 135
+    ("all actions of the workload", "method"): 166,     # 165.4 of the first 100,000, aim 200; a refusal as a value of its own
+    ("give back of a page", "checked"): 104,            # 103.2 of the newest, aim 115; a refusal as a value of its own
+    ("give back of a page", "clang_checked"): 111,      # 110.2, aim 125; a refusal as a value of its own
+    ("write of a new page", "clang_checked"): 111,      # 110.6, aim 110; a find's answer goes through memory
     # a find for each page that is mapped, where C with the checks makes one for the span and then tests a bit a page
-    ("write of a page across two new ones", "checked"): 127,        # 126.0, aim 110; 123.1 by the kit of 2026-11-17
-    ("write of a page across two new ones", "clang_checked"): 123,  # 122.8, aim 110; 119.9 by that kit
-    ("write of 64 KiB of new pages", "checked"): 134,   # 133.4, aim 110; 130.3 by that kit
-    ("write of 64 KiB of new pages", "clang_checked"): 131,         # 130.0, aim 110; 126.9 by that kit
-    ("write of 1 MiB of new pages", "checked"): 139,    # 138.6, aim 110; 135.1 by that kit
-    ("write of 1 MiB of new pages", "clang_checked"): 135,          # 134.8, aim 110; 131.5 by that kit
+    ("write of a page across two new ones", "checked"): 123, # 122.3, aim 110
+    ("write of a page across two new ones", "clang_checked"): 120, # 119.1, aim 110
+    ("write of 64 KiB of new pages", "checked"): 130,   # 129.8, aim 110
+    ("write of 64 KiB of new pages", "clang_checked"): 127, # 126.5, aim 110
+    ("write of 1 MiB of new pages", "checked"): 136,    # 135.0, aim 110
+    ("write of 1 MiB of new pages", "clang_checked"): 132, # 131.3, aim 110
     # by vector stores a memset of a page is 247 instructions, and C without checks takes 2.00 x these: docs/MEASUREMENTS.md has the times
-    ("write of 16 bytes into a new page", "plain"): 226,            # 225.1, aim 130
+    ("write of 16 bytes into a new page", "plain"): 224, # 223.4, aim 130
 }
 # The same of the map file's two calls, each file for itself: held against C with the checks by gcc and by clang, where the aim is 200. memset's
 # instructions count by aims.scale; where it is the processor's block store, the files of about 1 KiB come out up to 1.3 hundredths off these.
-# By the kit of 2026-11-17 a read took 137 and 155 of the file of regions of 15,132 bytes, 163 and 190 of that of pairs of 16,436, 103 and 139 of that of
-# the pool; a write of regions 130 and 164.
 MAPS = {
-    # call and file, bytes: held by gcc, by clang   counted on 2026-11-26
-    ("read map regions", 972): (133, 149.5),        # 131.2 and 148.0
-    ("read map regions", 15132): (139, 157),        # 138.0 and 156.1
-    ("read map regions", 230172): (139, 158),       # 138.0 and 157.5
-    ("read map regions", 3670812): (139, 158),      # 138.1 and 157.7
-    ("read map pairs", 948): (171.5, 198.5),        # 169.8 and 197.0
-    ("read map pairs", 16436): (172, 202),          # 171.7 and 201.2; the kit's other words made it dearer
-    ("read map pairs", 262196): (173, 202),         # 172.1 and 201.8; the same
-    ("read map pairs", 524340): (98, 105),          # 97.8 and 104.9
-    ("read map pool", 1000): (118, 152.5),          # 116.3 and 150.9
-    ("read map pool", 16424): (112, 151),           # 111.5 and 150.5
-    ("read map pool", 262184): (112, 151),          # 111.6 and 150.9
-    ("read map board", 1084): (155.5, 182.5),       # 154.0 and 180.8
-    ("read map board", 406300): (154, 187),         # 153.7 and 186.5
-    ("write map regions", 972): (133, 166),         # 131.8 and 164.9
-    ("write map regions", 15132): (133, 168),       # 132.9 and 167.8
-    ("write map regions", 230172): (137, 177),      # 136.5 and 176.9
-    ("write map regions", 3670812): (137, 178),     # 136.8 and 177.6
-    ("write map pairs", 948): (176, 174),           # 174.5 and 173.0
-    ("write map pairs", 16436): (189, 188),         # 188.4 and 187.3
-    ("write map pairs", 262196): (190, 189),        # 189.2 and 188.2
-    ("write map pairs", 524340): (185, 181),        # 184.7 and 180.9
-    ("write map pool", 1000): (109, 124),           # 107.8 and 122.6
-    ("write map pool", 16424): (107, 131),          # 106.4 and 130.1
-    ("write map pool", 262184): (107, 131),         # 106.3 and 130.7
-    ("write map board", 1084): (138, 136),          # 136.9 and 134.8
-    ("write map board", 406300): (154, 160),        # 153.0 and 159.5
+    # call and file, bytes: held by gcc, by clang   counted on 2026-11-27
+    ("read map regions", 972): (135, 152),          # 133.2 and 150.2; a move more a region since insert, of which pairs and pools gain
+    ("read map regions", 15132): (137, 155),        # 136.5 and 154.4
+    ("read map regions", 230172): (138, 157),       # 137.0 and 156.3
+    ("read map regions", 3670812): (138, 157),      # 137.0 and 156.4
+    ("read map pairs", 948): (164.5, 191),          # 163.1 and 189.2
+    ("read map pairs", 16436): (165, 193),          # 164.2 and 192.5
+    ("read map pairs", 262196): (165, 194),         # 164.6 and 193.0
+    ("read map pairs", 524340): (95, 102),          # 94.2 and 101.1
+    ("read map pool", 1000): (105.5, 136.5),        # 104.0 and 135.0
+    ("read map pool", 16424): (99, 134),            # 98.5 and 133.0
+    ("read map pool", 262184): (99, 134),           # 98.5 and 133.3
+    ("read map board", 1084): (152.5, 179),         # 151.0 and 177.2
+    ("read map board", 406300): (146, 177),         # 145.7 and 176.8
+    ("write map regions", 972): (128.5, 160.5),     # 127.2 and 159.1
+    ("write map regions", 15132): (129, 162),       # 128.0 and 161.7
+    ("write map regions", 230172): (131, 170),      # 130.8 and 169.5
+    ("write map regions", 3670812): (132, 171),     # 131.0 and 170.1
+    ("write map pairs", 948): (169, 167.5),         # 167.4 and 166.0
+    ("write map pairs", 16436): (180, 179),         # 179.6 and 178.5
+    ("write map pairs", 262196): (181, 180),        # 180.3 and 179.3
+    ("write map pairs", 524340): (177, 173),        # 176.3 and 172.7
+    ("write map pool", 1000): (104.5, 119),         # 103.1 and 117.2
+    ("write map pool", 16424): (101, 123),          # 100.2 and 122.6
+    ("write map pool", 262184): (101, 124),         # 100.0 and 123.0
+    ("write map board", 1084): (137, 135),          # 135.4 and 133.3
+    ("write map board", 406300): (148, 154),        # 147.5 and 153.7
 }
 HELD |= {(f"{what} of {size:,} bytes", engine): most for (what, size), both in MAPS.items() for engine, most in zip(("checked", "clang_checked"), both)}
 # What is held beside the aims: hundredths of the same work by another engine, and which functions do it.

@@ -13,7 +13,7 @@
     one of two lists: those that are run here, and those that are not, with the reason.
   - Every session that a document prints, a line and its answer in columns, is played, and answered so.
   - README.md's list of crates has each of crates.txt once, above those that it uses or before them in its line.
-docs/landings and docs/PORT.md tell of the past: only their lines are measured.
+docs/landings, docs/PORT.md and docs/DESIGN-PASS.md tell of the past: only their lines are measured.
 """
 import os
 import re
@@ -31,7 +31,11 @@ IN_CRATES = ("specs", "src", "proofs", "must-fail")
 # Words in backticks that are no names of ours.
 NO_NAMES = {"endbr64"}
 # Names that docs/CHANGES.md tells of and that are gone: another document or a source that has one is told.
-GONE = {"corwystal_free", "corwystal_board_free", "Pager::free"}
+GONE = {
+    "corwystal_free", "corwystal_board_free", "Pager::free",
+    "Released", "Listed", "GivenBack", "MapWritten", "MadeSize",
+    "StartOut", "TouchOut", "ReleaseOut", "GiveBackOut", "WriteOut",
+}
 
 # A script for FILE, and an empty folder for PREFIX.
 SCRIPT = "tests/session/session.txt"
@@ -388,7 +392,7 @@ def main():
     for name in sorted(f for f in files_below(".") if f.endswith(".md")):
         with open(os.path.join(folder, name), encoding="utf-8") as text:
             documents.append(Document(name, text.read().split("\n")))
-    told = [d for d in documents if not d.name.startswith(("docs/landings/", "docs/PORT"))]
+    told = [d for d in documents if not d.name.startswith(("docs/landings/", "docs/PORT", "docs/DESIGN-PASS"))]
     check = Check(told, Repository())
     for document in documents:
         check.lines(document)

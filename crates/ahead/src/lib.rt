@@ -7,13 +7,15 @@ ghost use Rattle.ahead.specs.Ahead.{beyond, filled_by};
 use hexing::unhex;
 use requests::Request;
 
+// The places and the bytes of RAM of the largest start.
+const MOST_PLACES: u64 = 1_024;
+
+const MOST_BYTES: u64 = 32_768;
+
 fn is_large(s: u32, n: u32, f: u32, p: u32) -> bool
     ensures { result ≡ not (leb (s * n) 1024 && leb (f * p) 32768) }
 {
-    if 1024 < s as u64 * n as u64 {
-        return true;
-    }
-    32768 < f as u64 * p as u64
+    u64::from(s) * u64::from(n) > MOST_PLACES || u64::from(f) * u64::from(p) > MOST_BYTES
 }
 
 // Whether it is a start beyond the session's limits.
@@ -22,14 +24,7 @@ pub fn is_beyond(request: Request) -> bool
 {
     match request {
         Request::Start(s, n, f, p) => is_large(s, n, f, p),
-        Request::Page(_, _, _) => false,
-        Request::Free => false,
-        Request::Translate(_, _) => false,
-        Request::Read(_, _) => false,
-        Request::Write(_, _) => false,
-        Request::List(_) => false,
-        Request::WriteMap => false,
-        Request::ReadMap => false,
+        _ => false,
     }
 }
 
@@ -37,15 +32,7 @@ pub fn is_beyond(request: Request) -> bool
 pub fn fill(request: Request, line: &[u8], n: usize, buffer: &mut [u8])
     ensures { buffer.new ≡ filled_by request line.now n buffer.old }
 {
-    match request {
-        Request::Write(_, _) => unhex(line, n, buffer),
-        Request::Start(_, _, _, _) => {}
-        Request::Page(_, _, _) => {}
-        Request::Free => {}
-        Request::Translate(_, _) => {}
-        Request::Read(_, _) => {}
-        Request::List(_) => {}
-        Request::WriteMap => {}
-        Request::ReadMap => {}
+    if let Request::Write(_, _) = request {
+        unhex(line, n, buffer);
     }
 }

@@ -1,12 +1,13 @@
 -- The head that a call was lent, with those numbers of the pool stored that the call may change, is the head of the answer: the other fields are the same
 -- then, since a call that begins nothing leaves the sizes.
 use mathlib.Core.Path.{◌≡◌, refl, sym}
+use mathlib.Core.Bool.{true}
 use mathlib.Core.Option.{none}
 use Prim.Native.Nat.{ℕ}
 use Rattle.machine.specs.Machine.{Lent, Call, facts, Answer}
 use Rattle.memory.specs.Memory.{Memory, lengths}
 use Rattle.memory.specs.declared.Head.{Head}
-use Rattle.promise.specs.Did.{Did}
+use Rattle.promise.specs.Did.{still, Did}
 use Rattle.laws.specs.Lengths.{sizes_stay}
 use Rattle.checks.specs.Shifts.{pow_injective}
 
@@ -36,3 +37,8 @@ module _ {c : Lent → Call} {k : Memory} {a : Answer} {k' : Memory} (begins_non
   -- a release or a hand-back: no frame given back is one that was never used
   pub chain_changes : k'.head.fresh ≡ k.head.fresh → with_pool k.head k'.head.first k'.head.many k.head.fresh ≡ k'.head
   chain_changes e = sizes_same k.head.fresh (sym e)
+
+-- an answer that is to change nothing: the head that was lent is the answer's
+pub head_stays : {c : Lent → Call} {k : Memory} {a : Answer} {k' : Memory} → Did c k a k' → still a ≡ true
+    → Did c k a (record k' { head = k.head })
+head_stays did e = rw (did.stays e) (rw (did.stays e) at did)

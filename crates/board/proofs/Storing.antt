@@ -1,5 +1,5 @@
 -- Records stored from the last to the first: each region told is the record before those that stand already; and the promise of a list from them.
-use mathlib.Core.Path.{◌≡◌, refl, sym, ap, ◌∙◌}
+use mathlib.Core.Path.{◌≡◌, refl, ap, ◌∙◌}
 use mathlib.Core.List.{List, [], ◌∷◌}
 use Prim.Native.Nat.{ℕ, zero, suc, ◌-◌, ◌≤◌, ◌<◌}
 use native.Mathlib.Omega.{arith}
@@ -8,11 +8,14 @@ use lib.Seq.{drop-set-lt}
 use Rattle.machine.specs.declared.Region.{Region}
 use Rattle.memory.specs.Memory.{memory}
 use Rattle.memory.specs.declared.Head.{Head}
-use Rattle.promise.specs.Filled.{records_filled, RecordsDid}
+use Rattle.promise.specs.Filled.{RecordsDid}
 use Rattle.listing.specs.declared.Cursor.{Cursor}
 use Rattle.listing.specs.declared.Told.{Told}
-use Rattle.listing.specs.declared.Surveyed.{Surveyed}
-use Rattle.listing.specs.Steps.{Tellable, Tells, Surveys}
+use Rattle.machine.specs.Machine.{refused}
+use Rattle.refusals.specs.Refusals.{number}
+use Rattle.refusals.specs.declared.Refusal.{Refusal}
+use Rattle.std.specs.Prelude.{Ok, Err}
+use Rattle.listing.specs.Steps.{Tellable, Tells, Lists, ToTell}
 use Rattle.listing.specs.Laws.{TellsOn, none_told, one_told, all_told}
 
 -- c is left of the regions c₀; the records from number c .left on are told
@@ -48,21 +51,23 @@ module _ {c₀ : Cursor} {index count : List ℕ} {slice : List Region} where
           tells = rw (more, first_record slice' k (c₀.left - c.left) r.region inside, next) (one_told so_far.tells told);
         }
 
--- all are stored
-module _ {h : Head} {i : ℕ} {index count : List ℕ} {slice slice' : List Region} {r : Surveyed} (s : Surveys h i (length slice) index count r)
-    {c : Cursor} where
-  pub all_stored : Stored r.regions index count slice c slice' → c.left ≤ 0 → (table helper stack cache link ram : List ℕ)
-      → RecordsDid i (memory h index count table helper stack cache link ram) r.answer slice slice'
-  all_stored stored done table helper stack cache link ram =
-      let n = s.told in
+-- all are stored, or nothing is where the survey refuses
+module _ {h : Head} {i : ℕ} {index count : List ℕ} (slice : List Region) where
+  pub all_stored : {c₀ c : Cursor} {slice' : List Region} → ToTell h i (length slice) index count c₀ → Stored c₀ index count slice c slice' → c.left ≤ 0
+      → (table helper stack cache link ram : List ℕ)
+      → RecordsDid i (memory h index count table helper stack cache link ram) (Ok c₀.left) slice slice'
+  all_stored {c₀} {c} {slice'} s stored done table helper stack cache link ram =
       let none : c.left ≡ 0 = omega arith in
-      let all : r.regions.left - c.left ≡ r.regions.left = omega arith in
+      let all : c₀.left - c.left ≡ c₀.left = omega arith in
       let from : drop c.left slice' ≡ slice' = ap (λ (k : ℕ). drop k slice') none in
       record {
-        did = s.did (take (records_filled r.answer) slice') (rw n (all_told none (rw (all, from) at stored.tells))) table helper stack cache link ram;
-        kept = λ k refused.
-            let nothing : r.regions.left ≡ 0 = sym n ∙ ap records_filled refused in
-            rw nothing at stored.after_last;
-        fits = rw n s.fits;
-        after_last = rw n stored.after_last;
+        did = s.did (take c₀.left slice') (all_told none (rw (all, from) at stored.tells)) table helper stack cache link ram;
+        kept = λ e is. absurd (let z : ◌≡◌ {A = ℕ} 0 1 = cc in omega arith);
+        fits = s.fits;
+        after_last = stored.after_last;
       }
+
+  pub none_kept : (e : Refusal) → Lists h i (length slice) index count (refused (number e)) → (table helper stack cache link ram : List ℕ)
+      → RecordsDid i (memory h index count table helper stack cache link ram) (Err e) slice slice
+  none_kept e did table helper stack cache link ram =
+      record { did = did table helper stack cache link ram; kept = λ e is. refl; fits = omega arith; after_last = refl }

@@ -12,11 +12,9 @@ ghost use Rattle.promise.specs.Filled.{ReadDid, RecordsDid, MapDid};
 ghost use Rattle.machine.specs.Machine.{sizes};
 
 use listing::{last_region, survey};
-use machine::{
-    Copied, Done, Free, GivenBack, Listed, Looked, MapWritten, Region, Released, Touched,
-    Translated,
-};
+use machine::{Looked, RefusedAfter, Region, Touched};
 use memory::Head;
+use refusals::Refusal;
 
 // Sets the sizes: no starts, every frame in the pool. Five tables and the RAM may hold anything.
 pub fn start(
@@ -27,7 +25,7 @@ pub fn start(
     page: u32,
     index: &mut [u64],
     count: &mut [u32],
-) -> Done
+) -> Result<(), Refusal>
     ensures { (table helper stack cache link ram : List ℕ) →
         Did (machine.start (sizes spaces pages frames page))
         (memory head.old index.old count.old table helper stack cache link ram)
@@ -40,7 +38,13 @@ pub fn start(
 }
 
 // Adds a start.
-pub fn mark(head: &Head, space: u32, page: u32, index: &mut [u64], count: &[u32]) -> Done
+pub fn mark(
+    head: &Head,
+    space: u32,
+    page: u32,
+    index: &mut [u64],
+    count: &[u32],
+) -> Result<(), Refusal>
     ensures { (table helper stack cache link ram : List ℕ) →
         Did (machine.mark space page)
         (memory head.now index.old count.now table helper stack cache link ram)
@@ -51,7 +55,13 @@ pub fn mark(head: &Head, space: u32, page: u32, index: &mut [u64], count: &[u32]
 }
 
 // Removes a start whose region has no resident page.
-pub fn drop(head: &Head, space: u32, page: u32, index: &mut [u64], count: &[u32]) -> Done
+pub fn drop(
+    head: &Head,
+    space: u32,
+    page: u32,
+    index: &mut [u64],
+    count: &[u32],
+) -> Result<(), Refusal>
     ensures { (table helper stack cache link ram : List ℕ) →
         Did (machine.drop space page)
         (memory head.now index.old count.now table helper stack cache link ram)
@@ -74,7 +84,7 @@ pub fn touch(
     cache: &mut [u32],
     link: &mut [u32],
     ram: &mut [u8],
-) -> Touched
+) -> Result<Touched, RefusedAfter>
     ensures { Did (machine.touch space page)
         (memory head.old index.now count.old table.old helper.old stack.old
         cache.old link.old ram.old)
@@ -85,9 +95,15 @@ pub fn touch(
     let touched = touching::touch(
         *head, space, page, index, count, table, helper, stack, cache, link, ram,
     );
-    head.first = touched.head.first;
-    head.many = touched.head.many;
-    head.fresh = touched.head.fresh;
+    // only a page that was mapped took a frame; not by `?`, which makes a resident touch 4 hundredths dearer
+    let Ok(answer) = touched.answer else {
+        return touched.answer;
+    };
+    if let Touched::New(_, _) = answer {
+        head.first = touched.head.first;
+        head.many = touched.head.many;
+        head.fresh = touched.head.fresh;
+    }
     touched.answer
 }
 
@@ -102,7 +118,7 @@ pub fn look(
     helper: &[u32],
     stack: &[u32],
     cache: &[u32],
-) -> Looked
+) -> Result<Looked, RefusedAfter>
     ensures { (link ram : List ℕ) →
         Did (machine.look space page)
         (memory head.now index.now count.now table.now helper.now stack.now
@@ -126,7 +142,7 @@ pub fn release(
     table: &[u32],
     stack: &[u32],
     link: &mut [u32],
-) -> Released
+) -> Result<u32, Refusal>
     ensures { (helper cache ram : List ℕ) →
         Did (machine.release space page)
         (memory head.old index.now count.old table.now helper stack.now cache link.old ram)
@@ -151,7 +167,7 @@ pub fn give_back(
     stack: &mut [u32],
     cache: &[u32],
     link: &mut [u32],
-) -> GivenBack
+) -> Result<(), Refusal>
     ensures { (ram : List ℕ) →
         Did (machine.give_back space page)
         (memory head.old index.now count.old table.now helper.old stack.old
@@ -169,7 +185,7 @@ pub fn give_back(
 }
 
 // The frames in the pool. Lent nothing but the head.
-pub fn free(head: &Head) -> Free
+pub fn free(head: &Head) -> Result<u32, Refusal>
     ensures { (index count table helper stack cache link ram : List ℕ) →
         Did (λ _. machine.free) (memory head.now index count table helper stack cache link ram) (free_says result)
         (memory head.now index count table helper stack cache link ram) }
@@ -188,7 +204,7 @@ pub fn translate(
     helper: &[u32],
     stack: &[u32],
     cache: &[u32],
-) -> Translated
+) -> Result<usize, Refusal>
     ensures { (link ram : List ℕ) →
         Did (machine.translate space address)
         (memory head.now index.now count.now table.now helper.now stack.now
@@ -215,7 +231,7 @@ pub fn read(
     stack: &[u32],
     cache: &[u32],
     ram: &[u8],
-) -> Copied
+) -> Result<(), Refusal>
     ensures { (link : List ℕ) →
         ReadDid space address
         (memory head.now index.now count.now table.now helper.now stack.now
@@ -241,7 +257,7 @@ pub fn write(
     cache: &mut [u32],
     link: &mut [u32],
     ram: &mut [u8],
-) -> Done
+) -> Result<(), Refusal>
     ensures { Did (machine.write space address bytes.now)
         (memory head.old index.now count.old table.old helper.old stack.old
         cache.old link.old ram.old)
@@ -259,23 +275,35 @@ pub fn write(
 }
 
 // One record a region of a space, ascending. Those after the last stay. All that is decided is decided in crate listing.
-fn list_into(head: Head, space: u32, records: &mut [Region], index: &[u64], count: &[u32]) -> Listed
+fn list_into(
+    head: Head,
+    space: u32,
+    records: &mut [Region],
+    index: &[u64],
+    count: &[u32],
+) -> Result<u32, Refusal>
     ensures { (table helper stack cache link ram : List ℕ) →
         RecordsDid space (memory head index.now count.now table helper stack cache link ram) result records.old
         records.new }
 {
-    let s = survey(head, space, records.len(), index, count);
-    let mut rest = s.regions;
+    let regions = survey(head, space, records.len(), index, count)?;
+    let mut rest = regions;
     while 0 < rest.left {
         let told = last_region(index, count, rest);
         rest = told.rest;
         records[rest.left] = told.region;
     }
-    s.answer
+    Ok(regions.left as u32)
 }
 
 // One record a region of a space, ascending. Those after the last stay.
-pub fn list(head: &Head, space: u32, records: &mut [Region], index: &[u64], count: &[u32]) -> Listed
+pub fn list(
+    head: &Head,
+    space: u32,
+    records: &mut [Region],
+    index: &[u64],
+    count: &[u32],
+) -> Result<u32, Refusal>
     ensures { (table helper stack cache link ram : List ℕ) →
         RecordsDid space (memory head.now index.now count.now table helper stack cache link ram) result records.old
         records.new }
@@ -292,7 +320,7 @@ pub fn write_map(
     stack: &[u32],
     link: &[u32],
     file: &mut [u8],
-) -> MapWritten
+) -> Result<u32, Refusal>
     ensures { (helper cache ram : List ℕ) →
         MapDid
         (memory head.now index.now count.now table.now helper stack.now cache link.now ram)
@@ -312,7 +340,7 @@ pub fn read_map(
     stack: &mut [u32],
     cache: &mut [u32],
     link: &mut [u32],
-) -> Done
+) -> Result<(), Refusal>
     ensures { (ram : List ℕ) →
         Did (machine.read_map file.now)
         (memory head.old index.old count.old table.old helper.old stack.old
@@ -322,6 +350,8 @@ pub fn read_map(
         link.new ram) }
 {
     let loaded = loading::read_map(*head, file, index, count, table, helper, stack, cache, link);
+    // a refusal leaves the head as it is, which needn't be kept in registers then while the file is judged
+    loaded.answer?;
     *head = loaded.head;
-    loaded.answer
+    Ok(())
 }

@@ -14,7 +14,7 @@ use Rattle.walking.specs.declared.Body.{Body}
 use Rattle.walking.specs.Walking.{BodyAt}
 use Rattle.walking.specs.Laws.{count_at, frames_picked}
 use Rattle.walking.specs.Regions.{block_at, region_fits, blocks_next, blocks_end, whole_next}
-use Rattle.bodies.specs.Bodies.{body_frames, WholeAt}
+use Rattle.bodies.specs.Bodies.{body_frames}
 
 -- ---- a body's
 
@@ -46,9 +46,6 @@ module _ (ws : List ℕ) (at to : ℕ) (long : to ≤ length ws) (some : at < to
 
 -- ---- those of the spaces from i on
 
-pub held_begin : (ws : List ℕ) (spaces : ℕ) → held_frames ws 0 spaces ≡ held_frames ws 0 (spaces - 0)
-held_begin ws spaces = let all : spaces ≡ spaces - 0 = omega arith in ap (held_frames ws 0) all
-
 module _ (ws : List ℕ) (i spaces : ℕ) where
   held_next : i < spaces → held_frames ws i (spaces - i) ≡ body_frames (part_in ws i) ++ held_frames ws (i + 1) (spaces - (i + 1))
   unfolding held_frames
@@ -64,9 +61,6 @@ module _ (ws : List ℕ) (i spaces : ℕ) where
 -- ---- those of a row's body, and of the pool
 
 module _ {bytes : ℕ} {ws : List ℕ} {i : ℕ} {b : Body} (at : BodyAt bytes ws i b) where
-  pub whole_at : whole_from 0 (part_in ws i) ≡ true → WholeAt bytes ws b.first b.to
-  whole_at w = record { low = at.low; inside = at.inside; whole = ap (whole_from 0) at.part ∙ w }
-
   pub row_next : (spaces : ℕ) → i < spaces
       → held_frames ws i (spaces - i) ≡ body_frames (slice b.first b.to ws) ++ held_frames ws (i + 1) (spaces - (i + 1))
   row_next spaces h = held_next ws i spaces h ∙ ap (λ (xs : List ℕ). body_frames xs ++ held_frames ws (i + 1) (spaces - (i + 1))) (sym at.part)
@@ -75,6 +69,3 @@ module _ {bytes : ℕ} {ws : List ℕ} {i : ℕ} {b : Body} (at : BodyAt bytes w
   pool_is long =
       let end : b.first + (b.to - b.first) ≡ b.to = omega (arith, at.low) in
       picked_slice ws b.first (b.to - b.first) (omega (arith, at.low)) ∙ ap (λ (j : ℕ). slice b.first j ws) end ∙ at.part
-
-  pub pool_reach : Reach bytes b.first 1 (b.to - b.first)
-  pool_reach k q = omega (arith, at.low, at.inside)

@@ -138,9 +138,6 @@ module _ {n : ℕ} {ws : List ℕ} {first to at : ℕ} (x : Left n ws first to a
 
 -- ---- the bodies from number i on
 
-pub bodies_begin : (n : ℕ) (ws : List ℕ) (spaces : ℕ) → bodies_fine n ws 0 spaces ≡ bodies_fine n ws 0 (spaces - 0)
-bodies_begin n ws spaces = let all : spaces ≡ spaces - 0 = omega arith in ap (bodies_fine n ws 0) all
-
 pub bodies_end : (n : ℕ) (ws : List ℕ) (i spaces : ℕ) → spaces ≤ i → bodies_fine n ws i (spaces - i) ≡ true
 unfolding bodies_fine
 bodies_end n ws i spaces h = let none : spaces - i ≡ 0 = omega arith in ap (bodies_fine n ws i) none
@@ -156,9 +153,6 @@ module _ (n : ℕ) {bytes : ℕ} {ws : List ℕ} {i : ℕ} {b : Body} (at : Body
       let next : suc i ≡ i + 1 = omega arith in
       ap (bodies_fine n ws i) count
       ∙ ap₂ (λ (j : ℕ) (xs : List ℕ). fine_body n xs && pages_once n (blocks_in xs) && bodies_fine n ws j (spaces - (i + 1))) next (sym at.part)
-
-  pub fine_at : fine_body n words ≡ true → FineAt bytes ws b.first b.to n
-  fine_at f = record { low = at.low; inside = at.inside; fine = f }
 
   pub body_bad : fine_body n words ≡ false → bodies_fine n ws i (spaces - i) ≡ false
   body_bad f = bodies_next ∙ ap (λ (t : Bool). t && pages_once n (blocks_in words) && bodies_fine n ws (i + 1) (spaces - (i + 1))) f

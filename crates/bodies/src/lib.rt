@@ -14,19 +14,11 @@ ghost use Rattle.walking.specs.Rows.{Rowed, Bodied};
 ghost use Rattle.bodies.specs.Bodies.{body_frames, WholeAt, FineAt};
 
 use distinct::{all_new, window_new};
-use walking::{body_at, body_fine};
+use walking::{Body, body_at, body_fine};
 use words::index_at;
 
-// How many pages are looked at together, of those that are left of a region: the set has room for 65,536.
-fn window(left: usize) -> usize
-    requires { 1 ≤ left }
-    ensures { (1 ≤ result) × (result ≤ 65536) × (result ≤ left) }
-{
-    if 65_536 < left {
-        return 65_536;
-    }
-    left
-}
+// How many pages are looked at together: the set has room for so many.
+const WINDOW: usize = 65_536;
 
 // Whether the pages of n entries, the first at word `from`, are all different, where they lie from page lo on and below page hi.
 fn region_once(bytes: &[u8], from: usize, n: usize, lo: usize, hi: usize, seen: &mut [u64]) -> bool
@@ -38,8 +30,9 @@ fn region_once(bytes: &[u8], from: usize, n: usize, lo: usize, hi: usize, seen: 
         return true;
     }
     let mut at = lo;
+    // Windows and not `step_by`: the last one is cut off at `hi`, so each needs its own size all the same.
     while at < hi {
-        let size = window(hi - at);
+        let size = WINDOW.min(hi - at);
         if !window_new(bytes, from, n, at, size, seen) {
             return false;
         }
@@ -48,20 +41,21 @@ fn region_once(bytes: &[u8], from: usize, n: usize, lo: usize, hi: usize, seen: 
     true
 }
 
-// Whether no page stands twice in a region of the body from word `first` to before word `to`.
-fn pages_once(bytes: &[u8], first: usize, to: usize, pages: usize, seen: &mut [u64]) -> bool
-    requires { FineAt (length bytes.now) (words_in bytes.now) first to pages × (1041 ≤ length seen.old) }
-    ensures { (result ≡ pages_once pages (blocks_in (slice first to (words_in bytes.now)))) × (length seen.new ≡ length seen.old) }
+// Whether no page stands twice in a region of the body.
+fn pages_once(bytes: &[u8], body: Body, pages: usize, seen: &mut [u64]) -> bool
+    requires { FineAt (length bytes.now) (words_in bytes.now) body.first body.to pages × (1041 ≤ length seen.old) }
+    ensures { (result ≡ pages_once pages (blocks_in (slice body.first body.to (words_in bytes.now)))) × (length seen.new ≡ length seen.old) }
 {
-    let mut at = first;
-    while at < to {
+    let mut at = body.first;
+    // A walk over regions (see the head of crate walking).
+    while at < body.to {
         let lo = index_at(bytes, at);
         let length = index_at(bytes, at + 1);
         let n = index_at(bytes, at + 2);
         if !region_once(bytes, at + 3, n, lo, lo + length, seen) {
             return false;
         }
-        at = at + (3 + 2 * n);
+        at += 3 + 2 * n;
     }
     true
 }
@@ -71,32 +65,31 @@ pub fn bodies_fine(bytes: &[u8], spaces: usize, pages: usize, seen: &mut [u64]) 
     requires { Rowed (length bytes.now) (words_in bytes.now) spaces × (pages ≤ 262144) × (1041 ≤ length seen.old) }
     ensures { (result ≡ bodies_fine pages (words_in bytes.now) 0 spaces) × (length seen.new ≡ length seen.old) }
 {
-    let mut i = 0;
-    while i < spaces {
+    for i in 0..spaces {
         let body = body_at(bytes, i);
-        if !body_fine(bytes, body.first, body.to, pages) {
+        if !body_fine(bytes, body, pages) {
             return false;
         }
-        if !pages_once(bytes, body.first, body.to, pages, seen) {
+        if !pages_once(bytes, body, pages, seen) {
             return false;
         }
-        i += 1;
     }
     true
 }
 
-// Puts the frames of the body from word `first` to before word `to` into the set of those seen; false at the first that can't be.
-fn see_body(bytes: &[u8], first: usize, to: usize, frames: usize, seen: &mut [u64]) -> bool
-    requires { WholeAt (length bytes.now) (words_in bytes.now) first to × (check_size (length seen.old) frames ≡ 0) }
-    ensures { Saw frames (body_frames (slice first to (words_in bytes.now))) seen.old result seen.new }
+// Puts the frames of the body into the set of those seen; false at the first that can't be.
+fn see_body(bytes: &[u8], body: Body, frames: usize, seen: &mut [u64]) -> bool
+    requires { WholeAt (length bytes.now) (words_in bytes.now) body.first body.to × (check_size (length seen.old) frames ≡ 0) }
+    ensures { Saw frames (body_frames (slice body.first body.to (words_in bytes.now))) seen.old result seen.new }
 {
-    let mut at = first;
-    while at < to {
+    let mut at = body.first;
+    // A walk over regions (see the head of crate walking).
+    while at < body.to {
         let n = index_at(bytes, at + 2);
         if !all_new(bytes, at + 4, 2, n, frames, seen) {
             return false;
         }
-        at = at + (3 + 2 * n);
+        at += 3 + 2 * n;
     }
     true
 }
@@ -106,13 +99,11 @@ fn see_spaces(bytes: &[u8], spaces: usize, frames: usize, seen: &mut [u64]) -> b
     requires { Bodied (length bytes.now) (words_in bytes.now) spaces × (check_size (length seen.old) frames ≡ 0) }
     ensures { Saw frames (held_frames (words_in bytes.now) 0 spaces) seen.old result seen.new }
 {
-    let mut i = 0;
-    while i < spaces {
+    for i in 0..spaces {
         let body = body_at(bytes, i);
-        if !see_body(bytes, body.first, body.to, frames, seen) {
+        if !see_body(bytes, body, frames, seen) {
             return false;
         }
-        i += 1;
     }
     true
 }

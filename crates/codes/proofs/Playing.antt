@@ -1,63 +1,28 @@
 -- Codes played one after another: what they leave.
-use mathlib.Core.Path.{◌≡◌, refl, ◌∙◌}
+use mathlib.Core.Path.{◌≡◌, refl, ap, ◌∙◌}
 use mathlib.Core.List.{List, [], ◌∷◌, ◌++◌}
-use Prim.Native.Nat.{ℕ, ◌+◌, ◌-◌, ◌*◌, ◌/◌, ◌≤◌, ◌<◌, min}
-use native.Mathlib.Nat.{zero-add, min-le_left, min-le_right}
+use Prim.Native.Nat.{ℕ, zero, suc, ◌+◌, ◌-◌, ◌*◌, ◌/◌, ◌≤◌, ◌<◌}
+use native.Mathlib.Nat.{zero-add, add-zero}
 use native.Mathlib.Omega.{arith}
 use borrow.Rule.Slice.PartMut.{same_len_mid}
-use lib.ListN.{length}
+use lib.ListN.{length, get_or, take, drop}
+use Rattle.std.specs.Simd.{first_chunks}
+use Rattle.std.proofs.lemmas.List.{get_or-take, get_or-drop, length-take}
 use Rattle.memory.specs.Memory.{Memory, lengths}
 use Rattle.demands.specs.History.{Event}
 use Rattle.decoding.specs.declared.Code.{Code}
-use Rattle.decoding.specs.declared.Code.TheVariants.{Call, Unreadable}
+use Rattle.std.specs.Prelude.{Option, Some, None}
 use Rattle.plays.specs.Codes.{code_at}
 use Rattle.plays.specs.Plays.{Desk, part, with_reply, called, PlayedOne, Turns}
 use Rattle.plays.specs.Plays.Turns.{none, skip, turn}
 use Rattle.plays.proofs.Laws.{turns_append}
-
--- every buffer of the memory is as long as it was
-pub record Long (k₀ k : Memory) : Type 0 where
-  pub index : length k.index ≡ length k₀.index
-  pub count : length k.count ≡ length k₀.count
-  pub table : length k.table ≡ length k₀.table
-  pub helper : length k.helper ≡ length k₀.helper
-  pub stack : length k.stack ≡ length k₀.stack
-  pub cache : length k.cache ≡ length k₀.cache
-  pub link : length k.link ≡ length k₀.link
-  pub ram : length k.ram ≡ length k₀.ram
-
-same_lengths : (k₀ k : Memory) → Long k₀ k → lengths k ≡ lengths k₀
-same_lengths k₀ k l = λ i.
-    record {
-      index = l.index i;
-      count = l.count i;
-      table = l.table i;
-      helper = l.helper i;
-      stack = l.stack i;
-      cache = l.cache i;
-      link = l.link i;
-      ram = l.ram i;
-    }
-
-long_more : (k₀ k k' : Memory) → Long k₀ k → Long k k' → Long k₀ k'
-long_more k₀ k k' l m =
-    record {
-      index = m.index ∙ l.index;
-      count = m.count ∙ l.count;
-      table = m.table ∙ l.table;
-      helper = m.helper ∙ l.helper;
-      stack = m.stack ∙ l.stack;
-      cache = m.cache ∙ l.cache;
-      link = m.link ∙ l.link;
-      ram = m.ram ∙ l.ram;
-    }
 
 -- the loop's state: the first j codes are played
 pub record Playing (codes : List ℕ) (n : ℕ) (k₀ : Memory) (d₀ : Desk) (k : Memory) (d : Desk) (j : ℕ) : Type 0 where
   pub within : j ≤ n
   pub events : List Event
   pub turns : Turns codes (length d₀.bytes) (length d₀.records) 0 j k₀ d₀ events k d
-  pub long : Long k₀ k
+  pub long : lengths k ≡ lengths k₀
   pub replies_long : length d.replies ≡ length d₀.replies
   pub bytes_long : length d.bytes ≡ length d₀.bytes
   pub records_long : length d.records ≡ length d₀.records
@@ -67,15 +32,14 @@ playing_none codes n k d = record {
   within = omega arith;
   events = [];
   turns = none;
-  long = record
-      { index = refl; count = refl; table = refl; helper = refl; stack = refl; cache = refl; link = refl; ram = refl };
+  long = refl;
   replies_long = refl;
   bytes_long = refl;
   records_long = refl;
 }
 
 module _ (codes : List ℕ) (n : ℕ) (k₀ : Memory) (d₀ : Desk) (k : Memory) (d : Desk) (j : ℕ) (p : Playing codes n k₀ d₀ k d j) (more : j < n)
-    (k' : Memory) (reply' bytes' records' : List ℕ) (same : Long k k')
+    (k' : Memory) (reply' bytes' records' : List ℕ) (same : lengths k' ≡ lengths k)
     (reply-same : length reply' ≡ length (part (3 * j) (3 * j + 3) d.replies)) (bytes_same : length bytes' ≡ length d.bytes)
     (records-same : length records' ≡ length d.records) where
   abbrev whole_bytes : ℕ
@@ -91,18 +55,18 @@ module _ (codes : List ℕ) (n : ℕ) (k₀ : Memory) (d₀ : Desk) (k : Memory)
     made : List Event
     turned : Turns codes whole_bytes whole_records j 1 k d made k' next_desk
 
-  one_turn : (c : Code) → code_at codes whole_bytes whole_records j ≡ c → PlayedOne c k d.bytes d.records k' reply' bytes' records' → OneTurn
-  one_turn Unreadable e s =
+  one_turn : (o : Option Code) → code_at codes whole_bytes whole_records j ≡ o → PlayedOne o k d.bytes d.records k' reply' bytes' records' → OneTurn
+  one_turn None e s =
       record {
         made = [];
         turned = rw (s.memory_stays, s.reply_is, s.bytes_stay, s.records_stay) (skip {k = k} {d = d} e none);
       }
-  one_turn (Call q x) e s =
+  one_turn (Some c) e s =
       record {
-        made = record { call = called q x d; lent = lengths k; answer = s.answer } ∷ [];
+        made = record { call = called c d; lent = lengths k; answer = s.answer } ∷ [];
         turned =
             rw (s.reply_is, s.bytes_are, s.records_are)
-            (turn {k = k} {k₁ = k'} {d = d} {q = q} {p = x} {a = s.answer} e s.did (same_lengths k k' same) none);
+            (turn {k = k} {k₁ = k'} {d = d} {c = c} {a = s.answer} e s.did same none);
       }
 
   pub playing_more : PlayedOne (code_at codes (length d.bytes) (length d.records) j) k d.bytes d.records k' reply' bytes' records'
@@ -113,12 +77,27 @@ module _ (codes : List ℕ) (n : ℕ) (k₀ : Memory) (d₀ : Desk) (k : Memory)
         within = omega arith;
         events = p.events ++ t.made;
         turns = turns_append codes whole_bytes whole_records p.turns (rw zero-add t.turned);
-        long = long_more k₀ k k' p.long same;
+        long = same ∙ p.long;
         replies_long = same_len_mid (3 * j) (3 * j + 3 - 3 * j) d.replies reply' reply-same ∙ p.replies_long;
         bytes_long = bytes_same ∙ p.bytes_long;
         records_long = records-same ∙ p.records_long;
       }
 
--- a code that is to be played lies inside the list, and there is room for its reply
-pub code_inside : (a b n j : ℕ) → n ≡ min (a / 5) (b / 3) → j < n → (5 * j + 5 ≤ a) × (3 * j + 3 ≤ b)
-code_inside a b n j e h = (omega (arith, min-le_left (a / 5) (b / 3)), omega (arith, min-le_right (a / 5) (b / 3)))
+-- number i of chunk j
+chunk_at : (xs : List ℕ) (n j i : ℕ) → j < n → i < 5 → get_or (get_or (first_chunks 5 n xs) j []) i 0 ≡ get_or xs (5 * j + i) 0
+chunk_at xs zero j i h k = absurd (omega arith)
+chunk_at xs (suc n) zero i h k = rw zero-add (get_or-take 5 xs i 0 k)
+chunk_at xs (suc n) (suc j) i h k =
+    let e : 5 + (5 * j + i) ≡ 5 * suc j + i = omega arith in
+    chunk_at (drop 5 xs) n j i (omega arith) k ∙ get_or-drop 5 xs (5 * j + i) 0 ∙ ap (λ m. get_or xs m 0) e
+
+-- a chunk of the list is a code of it
+pub chunk_code : (codes : List ℕ) (chunks : List (List ℕ)) (n j bytes records : ℕ) → chunks ≡ first_chunks 5 (length codes / 5) codes
+    → length chunks ≡ length codes / 5 → j < length (take n chunks)
+    → code_at (get_or (take n chunks) j []) bytes records 0 ≡ code_at codes bytes records j
+chunk_code codes chunks n j bytes records f l h =
+    let few = length-take n chunks in
+    let inside : j < length codes / 5 = omega arith in
+    let below : j < n = omega arith in
+    let at = λ (i : ℕ) (k : i < 5). chunk_at codes (length codes / 5) j i inside k in
+    rw (get_or-take n chunks j [] below, f, at 0 (omega arith), at 1 (omega arith), at 2 (omega arith), at 3 (omega arith), at 4 (omega arith), add-zero)

@@ -8,15 +8,6 @@ ghost use Rattle.plays.specs.Promise.{Plays};
 use memory::Head;
 use turns::play_one;
 
-fn least(a: usize, b: usize) -> usize
-    ensures { result ≡ min a b }
-{
-    if a < b {
-        return a;
-    }
-    b
-}
-
 // Plays as many calls as there are codes and room for replies.
 pub fn play(
     head: Head,
@@ -41,21 +32,16 @@ pub fn play(
         ram.new)
         (record { replies = replies.new; bytes = bytes.new; records = records.new }) }
 {
-    let n = least(codes.len() / 5, replies.len() / 3);
+    let n = (codes.len() / 5).min(replies.len() / 3);
+    let (whole, _) = codes.as_chunks::<5>();
     let mut next = head;
-    let mut j = 0;
-    while j < n {
-        let from = 5 * j;
-        let to = 3 * j;
-        let end = to + 3;
+    for (j, code) in whole[..n].iter().enumerate() {
+        // by place: of what is written through `chunks_exact_mut` a proof knows the length alone
+        let at = 3 * j;
         next = play_one(
             next,
-            codes[from],
-            codes[from + 1],
-            codes[from + 2],
-            codes[from + 3],
-            codes[from + 4],
-            &mut replies[to..end],
+            code,
+            &mut replies[at..at + 3],
             bytes,
             records,
             index,
@@ -67,7 +53,6 @@ pub fn play(
             link,
             ram,
         );
-        j += 1;
     }
     next
 }

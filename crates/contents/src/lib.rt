@@ -8,7 +8,7 @@ ghost use Rattle.machine.specs.Fullness.{fullness_of};
 ghost use Rattle.machine.specs.Map.{first_body, row_count};
 ghost use Rattle.machine.specs.MapRules.{contents_whole};
 
-use machine::Fullness;
+use refusals::Refusal;
 use words::index_at;
 
 // Whether the contents aren't cut short. What follows them may be anything.
@@ -31,22 +31,22 @@ pub fn count_at(bytes: &[u8], i: usize) -> usize
 }
 
 // How full a space is: its third word as it stands. Refused with 1 for contents cut short or a number of spaces outside its limits, then with 2.
-pub fn how_full(space: u32, bytes: &[u8]) -> Fullness
+pub fn how_full(space: u32, bytes: &[u8]) -> Result<u32, Refusal>
     ensures { fullness_says result ≡ fullness_of bytes.now space }
 {
     if !is_whole(bytes) {
-        return Fullness::Refused(1);
+        return Err(Refusal::BadSizes);
     }
     let spaces = index_at(bytes, 0);
     if spaces < 1 {
-        return Fullness::Refused(1);
+        return Err(Refusal::BadSizes);
     }
     if 64 < spaces {
-        return Fullness::Refused(1);
+        return Err(Refusal::BadSizes);
     }
     let i = space as usize;
     if spaces <= i {
-        return Fullness::Refused(2);
+        return Err(Refusal::NoSpace);
     }
-    Fullness::Pages(count_at(bytes, i) as u32)
+    Ok(count_at(bytes, i) as u32)
 }

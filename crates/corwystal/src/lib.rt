@@ -1,20 +1,14 @@
 // The entrance for C and Rust: the board's calls, each answer as numbers. Crate corwystal_c exports them.
 #![tactic(auto)]
 
-ghost use Rattle.std.specs.Prelude.{◌≡◌, List, ℕ, take};
+ghost use Rattle.std.specs.Prelude.{◌≡◌, List, ℕ, take, Result};
 ghost use Rattle.machine.specs.Machine as machine;
 ghost use Rattle.machine.specs.Answers.{done_says, free_says, touched_says, looked_says, released_says, translated_says, copied_says, listed_says, map_written_says};
 ghost use Rattle.machine.specs.Answers.{given_back_says};
-ghost use Rattle.machine.specs.declared.Done.{Done};
 ghost use Rattle.machine.specs.declared.Touched.{Touched};
 ghost use Rattle.machine.specs.declared.Looked.{Looked};
-ghost use Rattle.machine.specs.declared.Released.{Released};
-ghost use Rattle.machine.specs.declared.GivenBack.{GivenBack};
-ghost use Rattle.machine.specs.declared.Free.{Free};
-ghost use Rattle.machine.specs.declared.Translated.{Translated};
-ghost use Rattle.machine.specs.declared.Copied.{Copied};
-ghost use Rattle.machine.specs.declared.Listed.{Listed};
-ghost use Rattle.machine.specs.declared.MapWritten.{MapWritten};
+ghost use Rattle.machine.specs.declared.RefusedAfter.{RefusedAfter};
+ghost use Rattle.refusals.specs.declared.Refusal.{Refusal};
 ghost use Rattle.memory.specs.Memory.{memory};
 ghost use Rattle.promise.specs.Did.{Did};
 ghost use Rattle.promise.specs.Filled.{ReadDid, RecordsDid, records_filled, MapDid, bytes_filled};
@@ -46,7 +40,7 @@ pub fn corwystal_start(
     index: &mut [u64],
     count: &mut [u32],
 ) -> Answer
-    ensures { Encodes Done done_says (λ a.
+    ensures { Encodes (Result (Unit {0}) Refusal) done_says (λ a.
         (table helper stack cache link ram : List ℕ) →
         Did (machine.start (sizes spaces pages frames page))
         (memory head.old index.old count.old table helper stack cache link ram)
@@ -64,7 +58,7 @@ pub fn corwystal_mark(
     index: &mut [u64],
     count: &[u32],
 ) -> Answer
-    ensures { Encodes Done done_says (λ a.
+    ensures { Encodes (Result (Unit {0}) Refusal) done_says (λ a.
         (table helper stack cache link ram : List ℕ) →
         Did (machine.mark space page)
         (memory head.now index.old count.now table helper stack cache link ram)
@@ -82,7 +76,7 @@ pub fn corwystal_drop(
     index: &mut [u64],
     count: &[u32],
 ) -> Answer
-    ensures { Encodes Done done_says (λ a.
+    ensures { Encodes (Result (Unit {0}) Refusal) done_says (λ a.
         (table helper stack cache link ram : List ℕ) →
         Did (machine.drop space page)
         (memory head.now index.old count.now table helper stack cache link ram)
@@ -106,7 +100,7 @@ pub fn corwystal_touch(
     link: &mut [u32],
     ram: &mut [u8],
 ) -> Answer
-    ensures { Encodes Touched touched_says (λ a.
+    ensures { Encodes (Result Touched RefusedAfter) touched_says (λ a.
         Did (machine.touch space page)
         (memory head.old index.now count.old table.old helper.old stack.old
         cache.old link.old ram.old)
@@ -131,7 +125,7 @@ pub fn corwystal_look(
     stack: &[u32],
     cache: &[u32],
 ) -> Answer
-    ensures { Encodes Looked looked_says (λ a.
+    ensures { Encodes (Result Looked RefusedAfter) looked_says (λ a.
         (link ram : List ℕ) →
         Did (machine.look space page)
         (memory head.now index.now count.now table.now helper.now stack.now
@@ -156,7 +150,7 @@ pub fn corwystal_release(
     stack: &[u32],
     link: &mut [u32],
 ) -> Answer
-    ensures { Encodes Released released_says (λ a.
+    ensures { Encodes (Result ℕ Refusal) released_says (λ a.
         (helper cache ram : List ℕ) →
         Did (machine.release space page)
         (memory head.old index.now count.old table.now helper stack.now cache link.old ram)
@@ -179,7 +173,7 @@ pub fn corwystal_give_back(
     cache: &[u32],
     link: &mut [u32],
 ) -> Answer
-    ensures { Encodes GivenBack given_back_says (λ a.
+    ensures { Encodes (Result (Unit {0}) Refusal) given_back_says (λ a.
         (ram : List ℕ) →
         Did (machine.give_back space page)
         (memory head.old index.now count.old table.now helper.old stack.old
@@ -195,7 +189,7 @@ pub fn corwystal_give_back(
 
 // The frames in the pool. Lent nothing but the head.
 pub fn corwystal_free_count(head: &Head) -> Answer
-    ensures { Encodes Free free_says (λ a.
+    ensures { Encodes (Result ℕ Refusal) free_says (λ a.
         (index count table helper stack cache link ram : List ℕ) →
         Did (λ _. machine.free) (memory head.now index count table helper stack cache link ram) (free_says a)
         (memory head.now index count table helper stack cache link ram)) result }
@@ -215,7 +209,7 @@ pub fn corwystal_translate(
     stack: &[u32],
     cache: &[u32],
 ) -> Answer
-    ensures { Encodes Translated translated_says (λ a.
+    ensures { Encodes (Result ℕ Refusal) translated_says (λ a.
         (link ram : List ℕ) →
         Did (machine.translate space address)
         (memory head.now index.now count.now table.now helper.now stack.now
@@ -243,7 +237,7 @@ pub fn corwystal_read(
     cache: &[u32],
     ram: &[u8],
 ) -> Answer
-    ensures { Encodes Copied (λ a. copied_says a buffer.new) (λ a.
+    ensures { Encodes (Result (Unit {0}) Refusal) (λ a. copied_says a buffer.new) (λ a.
         (link : List ℕ) →
         ReadDid space address
         (memory head.now index.now count.now table.now helper.now stack.now
@@ -274,7 +268,7 @@ pub fn corwystal_write(
     link: &mut [u32],
     ram: &mut [u8],
 ) -> Answer
-    ensures { Encodes Done done_says (λ a.
+    ensures { Encodes (Result (Unit {0}) Refusal) done_says (λ a.
         Did (machine.write space address bytes.now)
         (memory head.old index.now count.old table.old helper.old stack.old
         cache.old link.old ram.old)
@@ -295,7 +289,7 @@ pub fn corwystal_list(
     index: &[u64],
     count: &[u32],
 ) -> Answer
-    ensures { Encodes Listed (λ a. listed_says a (take (records_filled a) records.new)) (λ a.
+    ensures { Encodes (Result ℕ Refusal) (λ a. listed_says a (take (records_filled a) records.new)) (λ a.
         (table helper stack cache link ram : List ℕ) →
         RecordsDid space
         (memory head.now index.now count.now table helper stack cache link ram)
@@ -314,7 +308,7 @@ pub fn corwystal_write_map(
     link: &[u32],
     file: &mut [u8],
 ) -> Answer
-    ensures { Encodes MapWritten (λ a. map_written_says a (take (bytes_filled a) file.new)) (λ a.
+    ensures { Encodes (Result ℕ Refusal) (λ a. map_written_says a (take (bytes_filled a) file.new)) (λ a.
         (helper cache ram : List ℕ) →
         MapDid
         (memory head.now index.now count.now table.now helper stack.now cache link.now ram)
@@ -339,7 +333,7 @@ pub fn corwystal_read_map(
     cache: &mut [u32],
     link: &mut [u32],
 ) -> Answer
-    ensures { Encodes Done done_says (λ a.
+    ensures { Encodes (Result (Unit {0}) Refusal) done_says (λ a.
         (ram : List ℕ) →
         Did (machine.read_map file.now)
         (memory head.old index.old count.old table.old helper.old stack.old

@@ -1,13 +1,10 @@
 -- The three demands, clause by clause: in quotation marks the user's words, or, where it is said, document 01's. `Did` (crate promise) is what the
 -- contract of every call states.
-use Rattle.std.specs.Prelude.{◌≡◌, true, List, [], ◌∷◌, ◌++◌, map, ℕ, ◌+◌, ◌-◌, ◌≤◌, ◌<◌, length, get_or}
+use Rattle.std.specs.Prelude.{◌≡◌, true, List, [], ◌∷◌, ◌++◌, map, ℕ, ◌+◌, ◌-◌, ◌≤◌, ◌<◌, length, get_or, Result, Err}
 use Rattle.std.proofs.Math.Option.{some}
 use Rattle.sequence.specs.Sums.{sum, sum_from}
 use Rattle.machine.specs.declared.Region.{Region}
-use Rattle.machine.specs.declared.Copied.{Copied}
-use Rattle.machine.specs.declared.Copied.TheVariants as copied_is
-use Rattle.machine.specs.declared.Listed.{Listed}
-use Rattle.machine.specs.declared.Listed.TheVariants as listed_is
+use Rattle.refusals.specs.declared.Refusal.{Refusal}
 use Rattle.machine.specs.Machine.{Sizes, State, begun, Lent, Call, facts, release, free, translate, read, write, list, asked, ram_at, with_ram, records_of, Answer}
 use Rattle.machine.specs.Machine.{done, at, bytes, frames, regions, answers, after, after_all}
 use Rattle.machine.specs.Claims.{resident_pages, times_free, times_held, is_refused, Bare, Address, Same, Spared}
@@ -30,10 +27,10 @@ pub record Demand1 (c : Lent → Call) (k : Memory) (a : Answer) (k' : Memory) :
 -- the read buffer and the record slice are lent too
 abbrev pub Demand1Read : Type 0
 Demand1Read =
-    (i x : ℕ) (k : Memory) (r : Copied) (buffer buffer' : List ℕ) → ReadDid i x k r buffer buffer' → (n : ℕ) → r ≡ copied_is.Refused n → buffer' ≡ buffer
+    (i x : ℕ) (k : Memory) (r : Result (Unit {0}) Refusal) (buffer buffer' : List ℕ) → ReadDid i x k r buffer buffer' → (e : Refusal) → r ≡ Err e → buffer' ≡ buffer
 
 abbrev pub Demand1List : Type 0
-Demand1List = (i : ℕ) (k : Memory) (r : Listed) (slice slice' : List ℕ) → ListDid i k r slice slice' → (n : ℕ) → r ≡ listed_is.Refused n → slice' ≡ slice
+Demand1List = (i : ℕ) (k : Memory) (r : Result ℕ Refusal) (slice slice' : List ℕ) → ListDid i k r slice slice' → (e : Refusal) → r ≡ Err e → slice' ≡ slice
 
 -- ---- "every sequence of calls .., and of refused starts, from an accepted start, whatever the lent memory held before it. Refused calls are included.
 -- Each call gets the head, index, tables and RAM as the last one left them, and nobody else writes them." A later accepted start may stand in it too

@@ -1,7 +1,8 @@
 -- What stands in a buffer before and after a text written there; one text after another.
 use Rattle.std.specs.Prelude.{◌≡◌, refl, List, [], ◌∷◌, ◌++◌, ℕ, ◌+◌, ◌≤◌, length, take, drop}
 use Rattle.std.proofs.Common.{sym, ap, ◌∙◌, append_assoc, append-nil, add-zero, arith, take-append-drop, length-append, length-take, length-drop, length-take-le, take_at, drop_at, drop-drop}
-use Rattle.digits.specs.Writing.{Wrote}
+use Rattle.digits.specs.declared.Text.{Text}
+use Rattle.digits.specs.Writing.{Wrote, Added}
 
 pub wrote_none : (at : ℕ) (out : List ℕ) → Wrote at out [] at out
 wrote_none at out = record { long = refl; end_is = omega arith; out_is = rw (add-zero, take-append-drop) }
@@ -43,3 +44,11 @@ wrote_more {at} {e} {e₂} {out} {xs} {out₁} {ys} {out₂} a b =
       end_is = rw place b.end_is;
       out_is = b.out_is ∙ rw (wrote_front a, rest, place) (simp append_assoc);
     }
+
+-- the same of a text that is added to
+
+pub added_none : (t : Text) → Added t [] t
+added_none t = record { same_buffer = refl; wrote = wrote_none t.at t.out.now }
+
+pub added_more : {t t₁ t₂ : Text} {xs ys : List ℕ} → Added t xs t₁ → Added t₁ ys t₂ → Added t (xs ++ ys) t₂
+added_more a b = record { same_buffer = b.same_buffer ∙ a.same_buffer; wrote = wrote_more a.wrote b.wrote }

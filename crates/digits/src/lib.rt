@@ -1,127 +1,107 @@
-// Text written into a lent buffer after what stands there already: a word, numbers in decimal, bytes in hex.
+// Text written into a lent buffer after what stands there already: words, numbers in decimal, bytes in hex.
 #![tactic(auto)]
 
-ghost use Rattle.std.specs.Prelude.{◌≡◌, ◌++◌, ◌+◌, ◌*◌, ◌≤◌, length};
-ghost use Rattle.io.specs.Digits.{hex_digit_ascii, last_digits};
+ghost use Rattle.std.specs.Prelude.{◌≡◌, ◌++◌, ◌+◌, ◌*◌, ◌%◌, ◌≤◌, leb, length};
+ghost use Rattle.io.specs.Digits.{hex_digit_ascii};
 ghost use Rattle.digits.specs.Text.{decimal, hex_text, numbers_text};
-ghost use Rattle.digits.specs.Writing.{Wrote};
+ghost use Rattle.digits.specs.Writing.{Added};
 
-// A word.
-pub fn put(out: &mut [u8], at: usize, word: &[u8]) -> usize
-    requires { at + length word.now ≤ length out.old }
-    ensures { Wrote at out.old word.now result out.new }
-{
-    let n = word.len();
-    let mut i = 0;
-    while i < n {
-        out[at + i] = word[i];
-        i += 1;
-    }
-    at + n
+// A lent buffer, and how much of it is written.
+#[derive(Drop)]
+pub struct Text<'a> {
+    pub out: &'a mut [u8],
+    pub at: usize,
 }
 
-// A hex digit of a number below 16.
-fn glyph_of(d: u8) -> u8
+// The digit of a number below 16.
+fn hex_digit(d: u8) -> u8
     requires { d ≤ 15 }
     ensures { result ≡ hex_digit_ascii d }
 {
-    if d < 10 { 48 + d } else { 87 + d }
+    if d < 10 { b'0' + d } else { b'a' - 10 + d }
 }
 
 // The last decimal digit of a number.
-fn put_digit(out: &mut [u8], at: usize, n: u64) -> usize
-    requires { at + 1 ≤ length out.old }
-    ensures { Wrote at out.old (last_digits 10 1 n) result out.new }
+fn last_digit(n: u64) -> u8
+    ensures { result ≡ hex_digit_ascii (n % 10) }
 {
-    out[at] = glyph_of((n % 10) as u8);
-    at + 1
+    hex_digit((n % 10) as u8)
 }
 
-// The last two.
-fn put_two(out: &mut [u8], at: usize, n: u64) -> usize
-    requires { at + 2 ≤ length out.old }
-    ensures { Wrote at out.old (last_digits 10 2 n) result out.new }
-{
-    let next = put_digit(out, at, n / 10);
-    put_digit(out, next, n)
-}
-
-// The last three.
-fn put_three(out: &mut [u8], at: usize, n: u64) -> usize
-    requires { at + 3 ≤ length out.old }
-    ensures { Wrote at out.old (last_digits 10 3 n) result out.new }
-{
-    let next = put_two(out, at, n / 10);
-    put_digit(out, next, n)
-}
-
-// A number in decimal of any length, by way of an array of its digits.
-fn put_long(out: &mut [u8], at: usize, n: u64) -> usize
-    requires { at + 20 ≤ length out.old }
-    ensures wrote { Wrote at out.old (decimal n) result out.new }
-    ensures upper_bound { result ≤ at + 20 }
-{
-    let mut digits = [0u8; 20];
-    let k = io::decimal(n, &mut digits);
-    put(out, at, &digits[..k])
-}
-
-// A number in decimal, at most 20 digits. Most have one to three, which go straight to their places.
-fn put_number(out: &mut [u8], at: usize, n: u64) -> usize
-    requires { at + 20 ≤ length out.old }
-    ensures wrote { Wrote at out.old (decimal n) result out.new }
-    ensures upper_bound { result ≤ at + 20 }
-{
-    if n < 10 {
-        return put_digit(out, at, n);
+impl<'a> Text<'a> {
+    // Whether n bytes more fit.
+    pub fn has_room(&self, n: usize) -> bool
+        ensures { result ≡ leb (self.now.at + n) (length self.now.out.now) }
+    {
+        self.at <= self.out.len() && n <= self.out.len() - self.at
     }
-    if n < 100 {
-        return put_two(out, at, n);
-    }
-    if n < 1000 {
-        return put_three(out, at, n);
-    }
-    put_long(out, at, n)
-}
 
-// Bytes, two hex digits each.
-pub fn put_hex(out: &mut [u8], at: usize, bytes: &[u8]) -> usize
-    requires { at + 2 * length bytes.now ≤ length out.old }
-    ensures { Wrote at out.old (hex_text bytes.now) result out.new }
-{
-    let n = bytes.len();
-    let mut i = 0;
-    while i < n {
-        let b = bytes[i];
-        out[at + 2 * i] = glyph_of(b / 16);
-        out[at + 2 * i + 1] = glyph_of(b % 16);
-        i += 1;
+    // A word.
+    pub fn put(&mut self, word: &[u8])
+        requires { self.old.at + length word.now ≤ length self.old.out.now }
+        ensures { Added self.old word.now self.new }
+    {
+        let end = self.at + word.len();
+        self.out[self.at..end].copy_from_slice(word);
+        self.at = end;
     }
-    at + 2 * n
-}
 
-// Numbers, each after a blank.
-pub fn put_numbers(out: &mut [u8], at: usize, numbers: &[u32]) -> usize
-    requires { at + 21 * length numbers.now ≤ length out.old }
-    ensures { Wrote at out.old (numbers_text numbers.now) result out.new }
-{
-    let n = numbers.len();
-    let mut next = at;
-    let mut i = 0;
-    while i < n {
-        next = put(out, next, b" ");
-        next = put_number(out, next, numbers[i] as u64);
-        i += 1;
+    // A number in decimal of any length, by way of an array of its digits.
+    fn put_long(&mut self, n: u64)
+        requires { self.old.at + 20 ≤ length self.old.out.now }
+        ensures added { Added self.old (decimal n) self.new }
+        ensures upper_bound { self.new.at ≤ self.old.at + 20 }
+    {
+        let mut digits = [0u8; 20];
+        let k = io::decimal(n, &mut digits);
+        self.put(&digits[..k]);
     }
-    next
-}
 
-// A word, then a number.
-pub fn put_pair(out: &mut [u8], at: usize, word: &[u8], n: u64) -> usize
-    requires { at + length word.now + 20 ≤ length out.old }
-    ensures wrote { Wrote at out.old (word.now ++ decimal n) result out.new }
-    ensures upper_bound { result ≤ at + length word.now + 20 }
-{
-    let next = put(out, at, word);
-    put_number(out, next, n)
+    // A number in decimal, at most 20 digits. Most have one to three, which go straight to their places.
+    fn put_number(&mut self, n: u64)
+        requires { self.old.at + 20 ≤ length self.old.out.now }
+        ensures added { Added self.old (decimal n) self.new }
+        ensures upper_bound { self.new.at ≤ self.old.at + 20 }
+    {
+        if n < 10 {
+            return self.put(&[last_digit(n)]);
+        }
+        if n < 100 {
+            return self.put(&[last_digit(n / 10), last_digit(n)]);
+        }
+        if n < 1000 {
+            return self.put(&[last_digit(n / 10 / 10), last_digit(n / 10), last_digit(n)]);
+        }
+        self.put_long(n);
+    }
+
+    // Bytes, two hex digits each.
+    pub fn put_hex(&mut self, bytes: &[u8])
+        requires { self.old.at + 2 * length bytes.now ≤ length self.old.out.now }
+        ensures { Added self.old (hex_text bytes.now) self.new }
+    {
+        for b in bytes {
+            self.put(&[hex_digit(b / 16), hex_digit(b % 16)]);
+        }
+    }
+
+    // A word, then a number.
+    pub fn put_pair(&mut self, word: &[u8], n: u64)
+        requires { self.old.at + length word.now + 20 ≤ length self.old.out.now }
+        ensures added { Added self.old (word.now ++ decimal n) self.new }
+        ensures upper_bound { self.new.at ≤ self.old.at + length word.now + 20 }
+    {
+        self.put(word);
+        self.put_number(n);
+    }
+
+    // Numbers, each after a blank.
+    pub fn put_numbers(&mut self, numbers: &[u32])
+        requires { self.old.at + 21 * length numbers.now ≤ length self.old.out.now }
+        ensures { Added self.old (numbers_text numbers.now) self.new }
+    {
+        for n in numbers {
+            self.put_pair(b" ", u64::from(*n));
+        }
+    }
 }

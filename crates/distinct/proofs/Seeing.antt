@@ -9,11 +9,11 @@ use lib.ListN.{length, drop, length-append, length-drop}
 use Rattle.places.specs.Places.{put, adding, all_new, size}
 use Rattle.extent.specs.Checks.{places_ok, check_size, check}
 use Rattle.index.specs.Words.{index_of, IndexOf}
-use Rattle.index.specs.declared.Change.{Change}
-use Rattle.index.specs.declared.Membership.{Membership}
-use Rattle.index.specs.declared.Membership.TheVariants.{Member, Absent, Refused}
-use Rattle.index.specs.Answers.{member_if, unless}
-use Rattle.index.specs.Promise.{Prepared, Asked, Put}
+use Rattle.std.specs.Prelude.{Result, Ok, Err}
+use Rattle.std.specs.Result.{result_unwrap_or}
+use Rattle.refusals.specs.declared.Refusal.{Refusal}
+use Rattle.refusals.specs.Refusals.{answered}
+use Rattle.index.specs.Promise.{Prepared, Asked, Inserted, Put}
 use Rattle.index.specs.Laws.{index_front, length_index}
 use Rattle.distinct.specs.Distinct.{Emptied, Saw}
 use Rattle.distinct.specs.Laws.{size_few, set_fits}
@@ -29,30 +29,22 @@ check_is len f w = go (places_ok f && leb (size f) len)
 -- ---- one number
 
 module _ {f w : ℕ} {ws : List ℕ} (fits : check_size (length ws) f ≡ 0) where
-  answer_is : {a : Membership} → Asked f w ws a → (s : ℕ → Bool) → IndexOf f s ws → a ≡ unless Refused (cond (ltb w f) 0 3) (member_if (s w))
-  answer_is asked s i = asked.right s i ∙ ap (λ (n : ℕ). unless Refused n (member_if (s w))) (check_is (length ws) f w fits)
+  answer_is : {a : Result Bool Refusal} → Asked f w ws a → (s : ℕ → Bool) → IndexOf f s ws → a ≡ answered (cond (ltb w f) 0 3) (s w)
+  answer_is asked s i = asked.right s i ∙ ap (λ (n : ℕ). answered n (s w)) (check_is (length ws) f w fits)
 
-  pub saw_member : Asked f w ws Member → Saw f (w ∷ []) ws false ws
+  -- in the set already, or not below the bound
+  saw_old : {a : Result Bool Refusal} → Asked f w ws a → (a ≡ Ok false → ⊥) → Saw f (w ∷ []) ws false ws
   unfolding all_new
-  saw_member asked = record { size = refl; right = λ s i. go (ltb w f) (s w) (answer_is asked s i); after = λ s i e. absurd (false≢true e) }
+  saw_old {a} asked d = record { size = refl; right = λ s i. go (ltb w f) (s w) (answer_is asked s i); after = λ s i e. absurd (false≢true e) }
     where
-      go : (t u : Bool) → Member ≡ unless Refused (cond t 0 3) (member_if u) → false ≡ t && not u && true
+      go : (t u : Bool) → a ≡ answered (cond t 0 3) u → false ≡ t && not u && true
       go true true e = refl
-      go true false e = absurd (let z : ◌≡◌ {A = ℕ} 0 1 = cc in omega arith)
+      go true false e = absurd (d e)
       go false u e = refl
 
-  pub saw_refused : {k : ℕ} → Asked f w ws (Refused k) → Saw f (w ∷ []) ws false ws
-  unfolding all_new
-  saw_refused {k} asked = record { size = refl; right = λ s i. go (ltb w f) (s w) (answer_is asked s i); after = λ s i e. absurd (false≢true e) }
-    where
-      go : (t u : Bool) → Refused k ≡ unless Refused (cond t 0 3) (member_if u) → false ≡ t && not u && true
-      go true true e = absurd (let z : ◌≡◌ {A = ℕ} 0 1 = cc in omega arith)
-      go true false e = absurd (let z : ◌≡◌ {A = ℕ} 0 1 = cc in omega arith)
-      go false u e = refl
-
-  pub saw_absent : {a : Change} {ws' : List ℕ} → Asked f w ws Absent → Put true f w ws a ws' → Saw f (w ∷ []) ws true ws'
+  saw_new : {r : Result (Unit {0}) Refusal} {ws' : List ℕ} → Asked f w ws (Ok false) → Put true f w ws r ws' → Saw f (w ∷ []) ws true ws'
   unfolding all_new adding
-  saw_absent {a} {ws'} asked p =
+  saw_new {r} {ws'} asked p =
       record {
         size = p.few.size;
         right = λ s i. (go (ltb w f) (s w) (answer_is asked s i)).0;
@@ -61,14 +53,20 @@ module _ {f w : ℕ} {ws : List ℕ} (fits : check_size (length ws) f ≡ 0) whe
             (p.changed s i (check_is (length ws) f w fits ∙ (go (ltb w f) (s w) (answer_is asked s i)).1));
       }
     where
-      go : (t u : Bool) → Absent ≡ unless Refused (cond t 0 3) (member_if u) → (true ≡ t && not u && true) × (◌≡◌ {A = ℕ} (cond t 0 3) 0)
-      go true true e = absurd (let z : ◌≡◌ {A = ℕ} 0 1 = cc in omega arith)
+      go : (t u : Bool) → Ok false ≡ answered (cond t 0 3) u → (true ≡ t && not u && true) × (◌≡◌ {A = ℕ} (cond t 0 3) 0)
+      go true true e = absurd (cc)
       go true false e = (refl, refl)
-      go false u e = absurd (let z : ◌≡◌ {A = ℕ} 0 1 = cc in omega arith)
+      go false u e = absurd (cc)
+
+  -- an insertion tells whether the number is new
+  pub saw_inserted : (r : Result Bool Refusal) {ws' : List ℕ} → Inserted f w ws r ws' → Saw f (w ∷ []) ws (result_unwrap_or r false) ws'
+  saw_inserted (Ok true) i = saw_new i.0 i.1
+  saw_inserted (Ok false) i = rw i.1 (saw_old i.0 (λ e. cc))
+  saw_inserted (Err e) i = rw i.1 (saw_old i.0 (λ n. cc))
 
 -- ---- the empty set
 
-module _ {f : ℕ} {ws ws' : List ℕ} {a : Change} (low : 1 ≤ f) (high : f ≤ 65536) (long : 1041 ≤ length ws) (p : Prepared f ws a ws') where
+module _ {f : ℕ} {ws ws' : List ℕ} {a : Result (Unit {0}) Refusal} (low : 1 ≤ f) (high : f ≤ 65536) (long : 1041 ≤ length ws) (p : Prepared f ws a ws') where
   room : check_size (length ws) f ≡ 0
   room = set_fits (length ws) f long low high
 

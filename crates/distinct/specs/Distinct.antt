@@ -9,6 +9,10 @@ unfoldable pub picked : List ℕ → ℕ → ℕ → ℕ → List ℕ
 picked ws at step zero = []
 picked ws at step (suc n) = get_or ws at 0 ∷ picked ws (at + step) step n
 
+-- those of them from number k on
+abbrev pub picked_on : List ℕ → ℕ → ℕ → ℕ → ℕ → List ℕ
+picked_on ws from step n k = picked ws (from + step * k) step (n - k)
+
 -- they lie inside so many bytes
 abbrev pub Reach : ℕ → ℕ → ℕ → ℕ → Type 0
 Reach bytes at step n = (k : ℕ) → k < n → 4 * (at + step * k) + 4 ≤ bytes

@@ -1,6 +1,6 @@
 -- Words picked from a file, the set of those seen, and numbers seen one list after another.
 use Rattle.std.specs.Prelude.{◌≡◌, refl, Bool, true, false, not, ◌&&◌, List, [], ◌∷◌, ◌++◌, ℕ, zero, suc, ◌+◌, ◌-◌, ◌*◌, ◌≤◌, ◌<◌, ltb, length, get_or}
-use Rattle.std.proofs.Common.{sym, ap, ◌∙◌, subst, mul-suc, mul-zero, arith}
+use Rattle.std.proofs.Common.{sym, ap, ap₂, ◌∙◌, subst, mul-suc, mul-zero, arith}
 use Rattle.std.proofs.Math.Bool.{and_assoc}
 use Rattle.std.proofs.lemmas.Bool.{false≢true}
 use Rattle.std.proofs.Math.Decide.{dec_le}
@@ -10,7 +10,7 @@ use Rattle.extent.specs.Checks.{check_size}
 use Rattle.extent.specs.Passing.{long_passes}
 use Rattle.extent.specs.Sizes.{size_one, size_two, size_three}
 use Rattle.index.specs.Words.{IndexOf}
-use Rattle.distinct.specs.Distinct.{picked, Reach, Saw, Seeing}
+use Rattle.distinct.specs.Distinct.{picked, picked_on, Reach, Saw, Seeing}
 
 -- ---- words picked from a file
 
@@ -25,6 +25,17 @@ picked_first ws at step n w h e = picked_more ws at step n h ∙ ap (λ (x : ℕ
 pub picked_none : (ws : List ℕ) (at step n : ℕ) → n ≤ 0 → picked ws at step n ≡ []
 unfolding picked
 picked_none ws at step n h = let none : n ≡ 0 = omega arith in rw none
+
+-- from number k on
+module _ (ws : List ℕ) (from step n : ℕ) where
+  pub picked_next : (k w : ℕ) → k < n → w ≡ get_or ws (from + step * k) 0 → picked_on ws from step n k ≡ (w ∷ []) ++ picked_on ws from step n (k + 1)
+  picked_next k w h e =
+      let there : from + step * k + step ≡ from + step * (k + 1) = omega (arith, mul-suc step k) in
+      let left : n - k - 1 ≡ n - (k + 1) = omega arith in
+      picked_first ws (from + step * k) step (n - k) w (omega arith) e ∙ ap₂ (λ (i j : ℕ). w ∷ picked ws i step j) there left
+
+  pub picked_end : (k : ℕ) → n ≤ k → picked_on ws from step n k ≡ []
+  picked_end k h = picked_none ws (from + step * k) step (n - k) (omega arith)
 
 -- one after another
 pub picked_slice : (ws : List ℕ) (from n : ℕ) → from + n ≤ length ws → picked ws from 1 n ≡ slice from (from + n) ws

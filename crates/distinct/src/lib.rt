@@ -8,7 +8,6 @@ ghost use Rattle.extent.specs.Checks.{check_size};
 ghost use Rattle.words.specs.Words.{words_in};
 ghost use Rattle.distinct.specs.Distinct.{picked, Reach, in_window, Emptied, Saw};
 
-use index::Membership;
 use words::index_at;
 
 // Makes the set empty, for numbers below the bound.
@@ -16,7 +15,7 @@ pub fn empty(seen: &mut [u64], bound: usize)
     requires { (1 ≤ bound) × (bound ≤ 65536) × (1041 ≤ length seen.old) }
     ensures { Emptied bound seen.old seen.new }
 {
-    index::prepare(seen, bound);
+    let _ = index::prepare(seen, bound);
 }
 
 // Puts w into the set; false where it isn't below the bound or was in the set already.
@@ -24,14 +23,7 @@ fn see(seen: &mut [u64], bound: usize, w: usize) -> bool
     requires { check_size (length seen.old) bound ≡ 0 }
     ensures { Saw bound (w ∷ []) seen.old result seen.new }
 {
-    match index::is_set(seen, bound, w) {
-        Membership::Member => false,
-        Membership::Absent => {
-            index::set(seen, bound, w);
-            true
-        }
-        Membership::Refused(_) => false,
-    }
+    index::insert(seen, bound, w).unwrap_or(false)
 }
 
 // Puts n words of a file into the set, every so many from word `from` on; false at the first that can't be.
@@ -46,15 +38,11 @@ pub fn all_new(
     requires { Reach (length bytes.now) from step n × (step ≤ 4) × (check_size (length seen.old) bound ≡ 0) }
     ensures { Saw bound (picked (words_in bytes.now) from step n) seen.old result seen.new }
 {
-    let mut at = from;
-    let mut left = n;
-    while 0 < left {
-        let w = index_at(bytes, at);
+    for k in 0..n {
+        let w = index_at(bytes, from + step * k);
         if !see(seen, bound, w) {
             return false;
         }
-        at += step;
-        left -= 1;
     }
     true
 }
@@ -64,29 +52,24 @@ fn see_within(seen: &mut [u64], lo: usize, size: usize, w: usize) -> bool
     requires { check_size (length seen.old) size ≡ 0 }
     ensures { Saw size (in_window lo size (w ∷ [])) seen.old result seen.new }
 {
-    if w < lo {
-        return true;
-    }
-    if size <= w - lo {
+    // not by `checked_sub`: two instructions a word more
+    if w < lo || size <= w - lo {
         return true;
     }
     see(seen, size, w - lo)
 }
 
-// The same for n words of a file, every second from word `from` on; false at the first that can't be.
+// The same for n words of a file, every second from word `from` on; false at the first that can't be. A loop of its own beside `all_new`:
+// with the call that differs as a closure, the closure's contract would be longer than the loop.
 fn see_window(bytes: &[u8], from: usize, n: usize, lo: usize, size: usize, seen: &mut [u64]) -> bool
     requires { Reach (length bytes.now) from 2 n × (check_size (length seen.old) size ≡ 0) }
     ensures { Saw size (in_window lo size (picked (words_in bytes.now) from 2 n)) seen.old result seen.new }
 {
-    let mut at = from;
-    let mut left = n;
-    while 0 < left {
-        let w = index_at(bytes, at);
+    for k in 0..n {
+        let w = index_at(bytes, from + 2 * k);
         if !see_within(seen, lo, size, w) {
             return false;
         }
-        at += 2;
-        left -= 1;
     }
     true
 }

@@ -4,20 +4,21 @@
 
 ghost use Rattle.std.specs.Prelude.{◌≡◌, ◌≤◌};
 ghost use Rattle.places.specs.Places.{words_for, size as size_of};
+ghost use Rattle.refusals.specs.Refusals.{refusal};
 ghost use Rattle.extent.specs.Checks.{places_ok, check_size, check as check_of};
 ghost use Rattle.extent.specs.Sizes.{Signum};
 
+use refusals::Refusal;
+
 // Whether T is within its limits.
+#[tactic(auto, unfolding(crate::specs::Checks::places_ok))]
 pub fn places_ok(places: usize) -> bool
     ensures { result ≡ places_ok places }
 {
-    if places < 1 {
-        return false;
-    }
-    places <= 262_144
+    1 <= places && places <= 262_144
 }
 
-// The words that n bits take.
+// The words that n bits take. Not by `div_ceil`, which takes three instructions more in each find.
 pub fn words_for(n: usize) -> usize
     requires { n ≤ 262144 }
     ensures { result ≡ words_for n }
@@ -29,10 +30,7 @@ pub fn words_for(n: usize) -> usize
 fn signum(n: usize) -> usize
     ensures { Signum n result }
 {
-    if n == 0 {
-        return 0;
-    }
-    1
+    usize::from(n != 0)
 }
 
 // The words of all layers, from the last place's word in each: a layer stands above another where that isn't a single word.
@@ -46,28 +44,28 @@ pub fn size(places: usize) -> usize
     low + (middle + (signum(low) + (signum(middle) + 1)))
 }
 
-// Refusal 1, or 0.
-pub fn check_size(len: usize, places: usize) -> u32
-    ensures { result ≡ check_size len places }
+// Refusal 1, where T or the buffer's length is outside its limits.
+#[tactic(auto, unfolding(crate::specs::Checks::check_size))]
+pub fn check_size(len: usize, places: usize) -> Result<(), Refusal>
+    ensures { refusal result ≡ check_size len places }
 {
     if !places_ok(places) {
-        return 1;
+        return Err(Refusal::BadSizes);
     }
     if len < size(places) {
-        return 1;
+        return Err(Refusal::BadSizes);
     }
-    0
+    Ok(())
 }
 
-// Refusal 1, then 3, or 0.
-pub fn check(len: usize, places: usize, p: usize) -> u32
-    ensures { result ≡ check_of len places p }
+// Refusal 1, then 3, where p is not below T.
+#[tactic(auto, unfolding(crate::specs::Checks::check, crate::specs::Checks::check_size))]
+pub fn check(len: usize, places: usize, p: usize) -> Result<(), Refusal>
+    ensures { refusal result ≡ check_of len places p }
 {
-    if check_size(len, places) != 0 {
-        return 1;
-    }
+    check_size(len, places)?;
     if places <= p {
-        return 3;
+        return Err(Refusal::NoPage);
     }
-    0
+    Ok(())
 }

@@ -1,4 +1,7 @@
 -- A write keeps the promise: refused before the first touch, or all touched and all stored.
+use Rattle.std.specs.Prelude.{Result, Ok, Err}
+use Rattle.refusals.specs.Refusals.{number}
+use Rattle.machine.specs.declared.RefusedAfter.{RefusedAfter}
 use Rattle.std.proofs.Math.Path.{◌≡◌, sym, subst}
 use Rattle.std.specs.Prelude.{refl, Bool, true, ◌&&◌, ◌||◌, List, [], ◌∷◌, ℕ, zero, suc, ◌+◌, ◌*◌, ◌/◌, ◌≤◌, ◌<◌, leb, ltb, length}
 use Rattle.std.proofs.Common.{ap, ◌∙◌, zero-le, div-lt_iff_lt-mul, arith, leb-true, ltb-true, ltb-false, le-ltb}
@@ -63,24 +66,24 @@ abbrev pub span_refusal : State → ℕ → ℕ → ℕ → ℕ
 span_refusal m i x n = write_refusal (span_outside m i x n) (span_short m i x n)
 
 -- the touch of its page settles a write of one
-pub touch_settles : (m : State) (p w : ℕ) (a : Touched) → touched_says a ≡ (touch_page m p w (page_of m p)).answer
+pub touch_settles : (m : State) (p w : ℕ) (a : Result Touched RefusedAfter) → touched_says a ≡ (touch_page m p w (page_of m p)).answer
     → refused_with a ≡ write_refusal (any_outside m p 1) (ltb (length m.pool) (count_absent m p 1))
 unfolding any_outside count_absent
 touch_settles m p w a = go (page_of m p)
   where
-    same_number : (n w : ℕ) (a : Touched) → touched_says a ≡ refused_after n w → refused_with a ≡ n
-    same_number n w (touched_is.Old f) e = absurd (let z : ◌≡◌ {A = ℕ} 0 1 = cc in omega arith)
-    same_number n w (touched_is.New f c) e = absurd (let z : ◌≡◌ {A = ℕ} 0 1 = cc in omega arith)
-    same_number n w (touched_is.Refused k c) e = let same : k ≡ n = cc in same
+    same_number : (n w : ℕ) (a : Result Touched RefusedAfter) → touched_says a ≡ refused_after n w → refused_with a ≡ n
+    same_number n w (Ok (touched_is.Old f)) e = absurd (let z : ◌≡◌ {A = ℕ} 0 1 = cc in omega arith)
+    same_number n w (Ok (touched_is.New f c)) e = absurd (let z : ◌≡◌ {A = ℕ} 0 1 = cc in omega arith)
+    same_number n w (Err y) e = let same : number y.refusal ≡ n = cc in same
 
     from_pool : (g : ℕ) (pool : List ℕ) → touched_says a ≡ (touch_new m g p w pool).answer → refused_with a ≡ write_refusal false (ltb (length pool) 1)
     from_pool g [] e = same_number 8 w a e
     from_pool g (f ∷ rest) e = rw (le-ltb (length (f ∷ rest)) 1 (omega arith)) (new_one a e)
       where
-        new_one : (a : Touched) → touched_says a ≡ new f w → refused_with a ≡ 0
-        new_one (touched_is.Old h) e = refl
-        new_one (touched_is.New h c) e = refl
-        new_one (touched_is.Refused k c) e = absurd (let z : ◌≡◌ {A = ℕ} 0 1 = cc in omega arith)
+        new_one : (a : Result Touched RefusedAfter) → touched_says a ≡ new f w → refused_with a ≡ 0
+        new_one (Ok (touched_is.Old h)) e = refl
+        new_one (Ok (touched_is.New h c)) e = refl
+        new_one (Err y) e = absurd (let z : ◌≡◌ {A = ℕ} 0 1 = cc in omega arith)
 
     go : (g : Page) → touched_says a ≡ (touch_page m p w g).answer
         → refused_with a ≡ write_refusal (is_outside g || false) (ltb (length m.pool) (is_unmapped g + 0))
@@ -88,10 +91,10 @@ touch_settles m p w a = go (page_of m p)
     go (unmapped g) e = from_pool g m.pool e
     go (mapped g f) e = rw (le-ltb (length m.pool) 0 zero-le) (old_one a e)
       where
-        old_one : (a : Touched) → touched_says a ≡ old f → refused_with a ≡ 0
-        old_one (touched_is.Old h) e = refl
-        old_one (touched_is.New h c) e = refl
-        old_one (touched_is.Refused k c) e = absurd (let z : ◌≡◌ {A = ℕ} 0 1 = cc in omega arith)
+        old_one : (a : Result Touched RefusedAfter) → touched_says a ≡ old f → refused_with a ≡ 0
+        old_one (Ok (touched_is.Old h)) e = refl
+        old_one (Ok (touched_is.New h c)) e = refl
+        old_one (Err y) e = absurd (let z : ◌≡◌ {A = ℕ} 0 1 = cc in omega arith)
 
 refused_if : (m : State) (i x : ℕ) (vs : List ℕ) (a b : Bool) (n : ℕ) → n ≡ write_refusal a b → (n ≡ 0 → ⊥) → write_if m i x vs a b ≡ tell m (refused n)
 refused_if m i x vs true b n e d = rw e

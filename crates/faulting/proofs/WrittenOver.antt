@@ -1,4 +1,6 @@
 -- The bytes are stored over all that was not cleared, and a write that its one touch settles.
+use Rattle.std.specs.Prelude.{Result, Ok, Err}
+use Rattle.machine.specs.declared.RefusedAfter.{RefusedAfter}
 use Rattle.std.specs.Prelude.{◌≡◌, refl, true, List, [], ◌∷◌, ℕ, ◌+◌, ◌*◌, ◌/◌, ◌≤◌, ◌<◌, ltb, length}
 use Rattle.std.proofs.Common.{sym, ◌∙◌, arith}
 use Rattle.std.proofs.Math.Path.{ap, ap₂, subst}
@@ -68,7 +70,7 @@ module _ {k : Memory} {i x : ℕ} {vs : List ℕ} {first pages : ℕ} (s : Spann
 
   -- ---- a span of one page, settled by its touch
 
-  module _ (one : span_pages (sizes_of k.head) x (length vs) ≡ 1) {a : Touched} {k₁ : Memory} (t : OneTouched i x (length vs) k a k₁) where
+  module _ (one : span_pages (sizes_of k.head) x (length vs) ≡ 1) {a : Result Touched RefusedAfter} {k₁ : Memory} (t : OneTouched i x (length vs) k a k₁) where
     abbrev b : ℕ
     b = x / z.page
 
@@ -89,21 +91,19 @@ module _ {k : Memory} {i x : ℕ} {vs : List ℕ} {first pages : ℕ} (s : Spann
         touch_settles m p (words_at m p) a ((t.did.honest m H).answer_is ∙ ap (λ (o : Out). o.answer) same)
         ∙ ap₂ (λ (q n : ℕ). write_refusal (any_outside m q n) (ltb (length m.pool) (count_absent m q n))) (sym here) (sym many)
 
-    late : (a : Touched) → Exactly (asked z (touch i b (lengths k))) z (touch i b (lengths k)) (touched_says a) → (refused_with a ≡ 0 → ⊥)
+    late : (a : Result Touched RefusedAfter) → Exactly (asked z (touch i b (lengths k))) z (touch i b (lengths k)) (touched_says a) → (refused_with a ≡ 0 → ⊥)
         → Among (4 ∷ 8 ∷ 9 ∷ []) (refused_with a)
-    late (touched_is.Old f) e d = absurd (d refl)
-    late (touched_is.New f w) e d = absurd (d refl)
-    late (touched_is.Refused n w) e d =
-        (subst (λ (j : ℕ). Exactly j z (touch i b (lengths k)) (touched_says (touched_is.Refused n w))) touch_asked e).0
+    late (Ok t) e d = absurd (d refl)
+    late (Err y) e d =
+        (subst (λ (j : ℕ). Exactly j z (touch i b (lengths k)) (touched_says (Err y))) touch_asked e).0
 
     one_decided : Decided k i x vs (refused_with a)
     one_decided = record { late = late a t.did.asks; is = one_settled }
 
     -- a touch that is refused leaves all as it is
-    same_memory : (a : Touched) → OneTouched i x (length vs) k a k₁ → (refused_with a ≡ 0 → ⊥) → k₁ ≡ k
-    same_memory (touched_is.Old f) t d = absurd (d refl)
-    same_memory (touched_is.New f w) t d = absurd (d refl)
-    same_memory (touched_is.Refused n w) t d = ap (with_bytes k₁) t.ram_is ∙ t.did.stays refl
+    same_memory : (a : Result Touched RefusedAfter) → OneTouched i x (length vs) k a k₁ → (refused_with a ≡ 0 → ⊥) → k₁ ≡ k
+    same_memory (Ok o) t d = absurd (d refl)
+    same_memory (Err y) t d = ap (with_bytes k₁) t.ram_is ∙ t.did.stays refl
 
     pub one_refused : (refused_with a ≡ 0 → ⊥) → Did (write i x vs) k (refused (refused_with a)) k₁
     one_refused d = subst (Did (write i x vs) k (refused (refused_with a))) (sym (same_memory a t d)) (refused_short one_decided d)

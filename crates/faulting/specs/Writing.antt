@@ -1,10 +1,10 @@
 -- What a touch says of a write.
-use Rattle.std.specs.Prelude.{ℕ}
+use Rattle.machine.specs.declared.RefusedAfter.{RefusedAfter}
+use Rattle.refusals.specs.Refusals.{number}
+use Rattle.std.specs.Prelude.{ℕ, Result, Ok, Err}
 use Rattle.machine.specs.declared.Touched.{Touched}
-use Rattle.machine.specs.declared.Touched.TheVariants as touched_is
 
 -- the number of a touch's refusal, 0 for none
-abbrev pub refused_with : Touched → ℕ
-refused_with (touched_is.Old f) = 0
-refused_with (touched_is.New f w) = 0
-refused_with (touched_is.Refused n w) = n
+abbrev pub refused_with : Result Touched RefusedAfter → ℕ
+refused_with (Ok t) = 0
+refused_with (Err e) = number e.refusal

@@ -10,21 +10,10 @@ ghost use Rattle.memory.specs.Memory.{memory, sizes_of, lengths};
 ghost use Rattle.promise.specs.Did.{Did};
 ghost use Rattle.faulting.specs.Writing.{refused_with};
 
-use machine::{Done, Touched};
 use mapping::touch_one;
-use memory::{Head, WriteOut};
+use memory::{Head, Out};
+use refusals::Refusal;
 use storing::store;
-
-// The number of a touch's refusal, 0 for none.
-fn number(answer: Touched) -> u32
-    ensures { result ≡ refused_with answer }
-{
-    match answer {
-        Touched::Refused(n, _) => n,
-        Touched::Old(_) => 0,
-        Touched::New(_, _) => 0,
-    }
-}
 
 // Stores bytes, all of one page, by way of the page's touch.
 pub fn write_one(
@@ -40,7 +29,7 @@ pub fn write_one(
     cache: &mut [u32],
     link: &mut [u32],
     ram: &mut [u8],
-) -> WriteOut
+) -> Out<Result<(), Refusal>>
     requires { (asked (sizes_of head) (machine.write space address bytes.now
         (lengths (memory head index.now count.old table.old helper.old stack.old cache.old link.old ram.old))) ≡ 0)
         × (span_pages (sizes_of head) address (length bytes.now) ≡ 1) }
@@ -66,17 +55,15 @@ pub fn write_one(
         ram,
     );
     let next = touched.head;
-    let answer = touched.answer;
-    let no = number(answer);
-    if no != 0 {
-        return WriteOut {
+    if let Err(no) = touched.answer {
+        return Out {
             head: next,
-            answer: Done::Refused(no),
+            answer: Err(no.refusal),
         };
     }
     store(next, space, address, bytes, table, ram);
-    WriteOut {
+    Out {
         head: next,
-        answer: Done::Ok,
+        answer: Ok(()),
     }
 }

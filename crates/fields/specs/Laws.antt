@@ -1,12 +1,12 @@
 -- What a field says of the line: what was read there, and that what it leaves is the line's end.
-use Rattle.std.specs.Prelude.{◌≡◌, refl, Bool, true, false, cond, ◌&&◌, eqb, leb, length, drop, get_or}
+use Rattle.std.specs.Prelude.{◌≡◌, refl, Bool, true, false, cond, ◌&&◌, eqb, leb, length, drop, get_or, Option, Some, None}
 use mathlib.Core.List.{List, [], ◌∷◌}
 use Prim.Native.Nat.{ℕ, zero, suc, ◌+◌, ◌-◌, ◌*◌, ◌≤◌, ◌<◌}
-use Rattle.std.proofs.Common.{add-one, arith, leb-true, drop_of_length-le, drop-cons, drop-drop}
+use Rattle.std.proofs.Common.{add-one, ap, arith, leb-true, length-append, drop_of_length-le, drop-cons, drop-drop}
+use Rattle.std.proofs.lemmas.Bool.Decides.{Decides-eqb}
+use Rattle.std.proofs.lemmas.Slice.Eq.{starts_is}
 use Rattle.machine.proofs.Laws.Sizes.{both}
-use Rattle.fields.specs.declared.Field.{Field}
-use Rattle.fields.specs.declared.Field.TheVariants as field_is
-use Rattle.fields.specs.Fields.{begins, is_digit, FieldTaken, nothing, number, digits_after, number_at, field_at, Takes}
+use Rattle.fields.specs.Fields.{begins, is_digit, FieldTaken, digits_after, number_at, field_at, Takes}
 
 -- ---- a place in a line
 
@@ -29,17 +29,17 @@ between a c b h =
     let p = both (leb a c) (leb c b) h in
     (leb-true a c p.0, leb-true c b p.1)
 
-pub begins_long : (ws cs : List ℕ) → begins ws cs ≡ true → length ws ≤ length cs
+pub begins_long : (word line : List ℕ) → begins word line ≡ true → length word ≤ length line
 unfolding begins
-begins_long [] cs h = omega arith
-begins_long (w ∷ ws) [] h = absurd (let z : ◌≡◌ {A = ℕ} 0 1 = cc in omega arith)
-begins_long (w ∷ ws) (c ∷ cs) h = omega (arith, begins_long ws cs (both (eqb c w) (begins ws cs) h).1)
+begins_long word line h =
+    let front = (starts_is Decides-eqb line word _ refl).0 h in
+    omega (arith, ap length front, length-append word (drop (length word) line))
 
-module _ (line : List ℕ) (at : ℕ) {r : Field} (t : Takes line at r) where
-  pub took : {v next : ℕ} → r ≡ field_is.Number v next → (next ≤ length line) × (field_at (drop at line) ≡ number v (drop next line))
+module _ (line : List ℕ) (at : ℕ) {r : Option (ℕ × ℕ)} (t : Takes line at r) where
+  pub took : {v next : ℕ} → r ≡ Some (v, next) → (next ≤ length line) × (field_at (drop at line) ≡ Some (v, drop next line))
   took e = rw e at t
 
-  pub took_none : r ≡ field_is.Nothing → field_at (drop at line) ≡ nothing
+  pub took_none : r ≡ None → field_at (drop at line) ≡ None
   took_none e = rw e at t
 
 -- ---- what is left
@@ -57,8 +57,8 @@ module _ (line : List ℕ) where
 
   -- what a number leaves
   abbrev pub Left : FieldTaken → Type 0
-  Left nothing = Unit
-  Left (number v rest) = Ends rest
+  Left None = Unit
+  Left (Some (v, rest)) = Ends rest
 
   -- an end's end is one
   pub tail : (c : ℕ) (cs : List ℕ) → Ends (c ∷ cs) → Ends cs

@@ -1,79 +1,47 @@
 // The fields of a line: its name, a number after a blank.
 #![tactic(auto)]
 
-ghost use Rattle.std.specs.Prelude.{Bool, ◌≡◌, ◌-◌, ◌≤◌, length};
+ghost use Rattle.std.specs.Prelude.{◌≡◌, ◌≤◌, IsTrue, length};
 ghost use Rattle.fields.specs.Fields.{begins, is_digit, Takes};
 
-// A number of a line, and where it ends.
-#[derive(Clone, Copy)]
-pub enum Field {
-    Number(u32, usize),
-    Nothing,
-}
+pub const BLANK: u8 = b' ';
 
-pub const BLANK: u8 = 32;
+// The digits of the longest number.
+const MOST_DIGITS: usize = 9;
 
 pub fn is_digit(c: u8) -> bool
     ensures { result ≡ is_digit c }
 {
-    48 <= c && c <= 57
+    c.is_ascii_digit()
 }
 
 // Whether the line begins with a word.
+#[tactic(auto, unfolding(crate::specs::Fields::begins))]
 pub fn begins_with(line: &[u8], word: &[u8]) -> bool
-    ensures { result ≡ begins word.now line.now }
+    ensures value { result ≡ begins word.now line.now }
+    ensures bound { IsTrue result → length word.now ≤ length line.now }
 {
-    let n = word.len();
-    if line.len() < n {
-        return false;
-    }
-    let mut i = 0;
-    while i < n {
-        if line[i] != word[i] {
-            return false;
-        }
-        i += 1;
-    }
-    true
+    line.starts_with(word)
 }
 
-fn digit_of(c: u8) -> u32
-    requires { is_digit c ≡ Bool.true }
-    ensures { (result ≡ c - 48) × (result ≤ 9) }
-{
-    (c - 48) as u32
-}
-
-// The number that follows a blank at a place of the line.
-pub fn number_after_blank(line: &[u8], at: usize) -> Field
+// The number that follows a blank at a place of the line, and where it ends.
+pub fn number_after_blank(line: &[u8], at: usize) -> Option<(u32, usize)>
     requires { at ≤ length line.now }
     ensures { Takes line.now at result }
 {
-    let n = line.len();
-    if n - at < 2 {
-        return Field::Nothing;
+    if line.len() - at < 2 || line[at] != BLANK || !is_digit(line[at + 1]) {
+        return None;
     }
-    if line[at] != BLANK {
-        return Field::Nothing;
-    }
-    let first = line[at + 1];
-    if !is_digit(first) {
-        return Field::Nothing;
-    }
-    let mut value = digit_of(first);
-    let mut i = at + 2;
-    let mut left: u32 = 8;
-    while i < n {
+    let mut value = u32::from(line[at + 1] - b'0');
+    for i in at + 2..line.len() {
         let c = line[i];
         if !is_digit(c) {
-            return Field::Number(value, i);
+            return Some((value, i));
         }
-        if left == 0 {
-            return Field::Nothing;
+        if i - at > MOST_DIGITS {
+            return None;
         }
-        value = 10 * value + digit_of(c);
-        left -= 1;
-        i += 1;
+        value = 10 * value + u32::from(c - b'0');
     }
-    Field::Number(value, i)
+    Some((value, line.len()))
 }

@@ -1,16 +1,15 @@
 -- The loop over a region's entries: what is mapped so far, and what is left to map.
 use mathlib.Core.Path.{◌≡◌, refl, sym, ap, ◌∙◌, subst}
 use mathlib.Core.List.{List, [], ◌∷◌}
-use Prim.Native.Nat.{ℕ, ◌+◌, ◌-◌, ◌≤◌, ◌<◌}
-use native.Mathlib.Omega.{arith}
+use Prim.Native.Nat.{ℕ, ◌+◌, ◌*◌, ◌≤◌, ◌<◌}
 use lib.ListN.{get_or, length-set}
 use Rattle.memory.specs.Memory.{Memory, memory, lengths}
 use Rattle.memory.specs.declared.Head.{Head}
 use Rattle.pool.specs.declared.Taken.{Taken}
 use Rattle.entries.specs.Fits.{Mapped}
 use Rattle.entries.specs.Models.{map_entry}
-use Rattle.distinct.specs.Distinct.{picked}
-use Rattle.distinct.specs.Laws.{picked_more}
+use Rattle.distinct.specs.Distinct.{picked_on}
+use Rattle.distinct.specs.Laws.{picked_next, picked_end}
 use Rattle.filling.specs.Filling.{CanMap, map_all, CanAll, places_from}
 
 -- ---- one page
@@ -37,23 +36,18 @@ pub record Filling (a : ℕ) (k₀ : List ℕ → List ℕ → Memory) (ps₀ : 
   pub size : lengths (k [] []) ≡ lengths (k₀ [] [])
   pub can : CanAll (k [] []) a ps
 
-pub none_filled : {a : ℕ} {k : List ℕ → List ℕ → Memory} {ps : List ℕ} → CanAll (k [] []) a ps → Filling a k ps k ps
-none_filled h = record { all = λ index ram. refl; size = refl; can = h }
+module _ (lo : ℕ) (ws : List ℕ) (from n i : ℕ) {a : ℕ} {k₀ k : List ℕ → List ℕ → Memory} {ps₀ : List ℕ}
+    (so_far : Filling a k₀ ps₀ k (places_from lo (picked_on ws from 2 n i))) where
+  pub all_filled : n ≤ i → (index ram : List ℕ) → k index ram ≡ map_all (k₀ index ram) a ps₀
+  unfolding map_all
+  all_filled h index ram = sym (so_far.all index ram ∙ ap (λ (xs : List ℕ). map_all (k index ram) a (places_from lo xs)) (picked_end ws from 2 n i h))
 
-module _ (lo : ℕ) (ws : List ℕ) (at left : ℕ) {a : ℕ} {k₀ k : List ℕ → List ℕ → Memory} {ps₀ : List ℕ}
-    (so_far : Filling a k₀ ps₀ k (places_from lo (picked ws at 2 left))) where
-  pub all_filled : left ≤ 0 → (index ram : List ℕ) → k index ram ≡ map_all (k₀ index ram) a ps₀
-  unfolding map_all picked
-  all_filled h index ram =
-      let none : left ≡ 0 = omega arith in
-      sym (so_far.all index ram ∙ ap (λ (n : ℕ). map_all (k index ram) a (places_from lo (picked ws at 2 n))) none)
-
-  module _ (some : 0 < left) (w : ℕ) (w-is : w ≡ get_or ws at 0) where
+  module _ (some : i < n) (w : ℕ) (w-is : w ≡ get_or ws (from + 2 * i) 0) where
     abbrev rest : List ℕ
-    rest = places_from lo (picked ws (at + 2) 2 (left - 1))
+    rest = places_from lo (picked_on ws from 2 n (i + 1))
 
-    more : places_from lo (picked ws at 2 left) ≡ (lo + w) ∷ rest
-    more = ap (places_from lo) (picked_more ws at 2 left some ∙ ap (λ (x : ℕ). x ∷ picked ws (at + 2) 2 (left - 1)) (sym w-is))
+    more : places_from lo (picked_on ws from 2 n i) ≡ (lo + w) ∷ rest
+    more = ap (places_from lo) (picked_next ws from 2 n i w some w-is)
 
     cans : CanAll (k [] []) a ((lo + w) ∷ rest)
     cans = subst (λ (ps : List ℕ). CanAll (k [] []) a ps) more so_far.can
@@ -63,7 +57,7 @@ module _ (lo : ℕ) (ws : List ℕ) (at left : ℕ) {a : ℕ} {k₀ k : List ℕ
     next_can = cans.0
 
     pub one_filled : {k' : List ℕ → List ℕ → Memory} → ((index ram : List ℕ) → k' index ram ≡ map_entry (k index ram) a (lo + w))
-        → Filling a k₀ ps₀ k' (places_from lo (picked ws (at + 2) 2 (left - 1)))
+        → Filling a k₀ ps₀ k' rest
     unfolding map_all CanAll
     one_filled {k'} e =
         record {

@@ -14,7 +14,7 @@ ghost use Rattle.filling.specs.Filling.{places_from, map_all, CanAll, map_blocks
 
 use entries::map_page;
 use memory::Head;
-use walking::body_at;
+use walking::{Body, body_at};
 use words::index_at;
 
 // Maps page p of the region at a, and leaves the head.
@@ -65,22 +65,17 @@ fn fill_region(
         a (places_from lo (picked (words_in bytes.now) first 2 n)) }
 {
     let mut after = head;
-    let mut at = first;
-    let mut left = n;
-    while 0 < left {
-        let p = lo + index_at(bytes, at);
+    for k in 0..n {
+        let p = lo + index_at(bytes, first + 2 * k);
         after = fill_page(after, count, table, helper, stack, cache, link, a, p);
-        at += 2;
-        left -= 1;
     }
     after
 }
 
-// Maps the pages of the body from word `first` to before word `to`, of the space from place lo on.
+// Maps the pages of the body, of the space from place lo on.
 fn fill_body(
     bytes: &[u8],
-    first: usize,
-    to: usize,
+    body: Body,
     lo: usize,
     head: Head,
     count: &mut [u32],
@@ -90,18 +85,22 @@ fn fill_body(
     cache: &mut [u32],
     link: &mut [u32],
 ) -> Head
-    requires { (first ≤ to) × (4 * to ≤ length bytes.now) × (lo ≤ 262144) × (whole_from 0 (slice first to (words_in bytes.now)) ≡ true)
+    requires { (body.first ≤ body.to)
+        × (4 * body.to ≤ length bytes.now)
+        × (lo ≤ 262144)
+        × (whole_from 0 (slice body.first body.to (words_in bytes.now)) ≡ true)
         × CanBlocks (memory head [] count.old table.old helper.old stack.old cache.old link.old []) lo
-        (blocks_in (slice first to (words_in bytes.now))) }
+        (blocks_in (slice body.first body.to (words_in bytes.now))) }
     ensures { (index ram : List ℕ) →
         memory result index count.new table.new helper.new stack.new cache.new link.new ram
         ≡ map_blocks
         (memory head index count.old table.old helper.old stack.old cache.old link.old ram)
-        lo (blocks_in (slice first to (words_in bytes.now))) }
+        lo (blocks_in (slice body.first body.to (words_in bytes.now))) }
 {
     let mut after = head;
-    let mut at = first;
-    while at < to {
+    let mut at = body.first;
+    // A walk over regions (see the head of crate walking).
+    while at < body.to {
         let a = lo + index_at(bytes, at);
         let n = index_at(bytes, at + 2);
         after = fill_region(
@@ -118,7 +117,7 @@ fn fill_body(
             cache,
             link,
         );
-        at = at + (3 + 2 * n);
+        at += 3 + 2 * n;
     }
     after
 }
@@ -145,13 +144,10 @@ pub fn fill_all(
         pages (words_in bytes.now) 0 spaces }
 {
     let mut after = head;
-    let mut i = 0;
-    while i < spaces {
-        let body = body_at(bytes, i);
+    for i in 0..spaces {
         after = fill_body(
             bytes,
-            body.first,
-            body.to,
+            body_at(bytes, i),
             i * pages,
             after,
             count,
@@ -161,7 +157,6 @@ pub fn fill_all(
             cache,
             link,
         );
-        i += 1;
     }
     after
 }

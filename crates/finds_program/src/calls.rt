@@ -1,31 +1,29 @@
 // The index's public calls, each with a line that says what it answered.
 use crate::line::Line;
-use index::{Change, Found, Membership, Needed};
+use index::Greatest;
+use refusals::Refusal;
 
 // The words that the index of t places takes; 0 where t is refused.
 pub(crate) fn words(t: usize) -> usize {
-    match index::words_needed(t) {
-        Needed::Words(n) => n,
-        Needed::Refused(_) => 0,
-    }
+    index::words_needed(t).unwrap_or(0)
 }
 
-fn refused(line: Line, number: u32) {
-    line.and(b" no ", number as usize).end(b"");
+fn refused(line: Line, why: Refusal) {
+    line.and(b" no ", why.number() as usize).end(b"");
 }
 
 pub(crate) fn size(t: usize) {
     let line = Line::new(b"size ", t);
     match index::words_needed(t) {
-        Needed::Words(n) => line.and(b" words ", n).end(b""),
-        Needed::Refused(number) => refused(line, number),
+        Ok(n) => line.and(b" words ", n).end(b""),
+        Err(why) => refused(line, why),
     }
 }
 
-fn change(line: Line, answer: Change) {
+fn change(line: Line, answer: Result<(), Refusal>) {
     match answer {
-        Change::Done => line.end(b" done"),
-        Change::Refused(number) => refused(line, number),
+        Ok(()) => line.end(b" done"),
+        Err(why) => refused(line, why),
     }
 }
 
@@ -52,27 +50,30 @@ pub(crate) fn put(index: &mut [u64], t: usize, p: usize, v: bool) {
 // Answers true for a member alone.
 pub(crate) fn is_set(index: &[u64], t: usize, p: usize) -> bool {
     let line = Line::new(b"is ", p);
-    match index::is_set(index, t, p) {
-        Membership::Member => {
-            line.end(b" member");
-            return true;
-        }
-        Membership::Absent => line.end(b" absent"),
-        Membership::Refused(number) => refused(line, number),
+    let answer = index::is_set(index, t, p);
+    match answer {
+        Ok(true) => line.end(b" member"),
+        Ok(false) => line.end(b" absent"),
+        Err(why) => refused(line, why),
     }
-    false
+    matches!(answer, Ok(true))
 }
 
 // Ends the line with the number of words read.
-fn read(line: Line, count: u32) {
-    line.and(b" words ", count as usize).end(b"");
+fn read(line: Line, words: u32) {
+    line.and(b" words ", words as usize).end(b"");
 }
 
 pub(crate) fn find(index: &[u64], t: usize, p: usize) {
     let line = Line::new(b"find ", p);
     match index::find(index, t, p) {
-        Found::Start(q, c) => read(line.and(b" start ", q), c),
-        Found::Missing(c) => line.and(b" none words ", c as usize).end(b""),
-        Found::Refused(number, c) => read(line.and(b" no ", number as usize), c),
+        Ok(
+            Greatest {
+                place: Some(q),
+                words,
+            },
+        ) => read(line.and(b" start ", q), words),
+        Ok(Greatest { place: None, words }) => line.and(b" none words ", words as usize).end(b""),
+        Err(why) => read(line.and(b" no ", why.number() as usize), 0),
     }
 }

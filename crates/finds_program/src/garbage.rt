@@ -6,8 +6,8 @@ fn word(i: usize) -> u64 {
 }
 
 pub(crate) fn fill(index: &mut [u64]) {
-    for i in 0..index.len() {
-        index[i] = word(i);
+    for (i, w) in index.iter_mut().enumerate() {
+        *w = word(i);
     }
 }
 
@@ -17,9 +17,5 @@ fn mix(s: u64, word: u64) -> u64 {
 
 // A sum of the words from word n on that tells their order too.
 pub(crate) fn sum(index: &[u64], n: usize) -> u64 {
-    let mut s = 0;
-    for i in n..index.len() {
-        s = mix(s, index[i]);
-    }
-    s
+    index.iter().skip(n).fold(0, |s, word| mix(s, *word))
 }

@@ -1,36 +1,32 @@
 // A line of output, put together in an array and written by one call.
+ghost use Rattle.std.specs.Prelude.{◌≤◌};
+
+const ROOM: usize = 80;
+
 #[derive(Drop)]
 pub(crate) struct Line {
-    bytes: [u8; 80],
+    bytes: [u8; ROOM],
     at: usize,
+    ghost inside: { at ≤ 80 },
 }
 
 impl Line {
     // The line that begins with a word and a number.
     pub(crate) fn new(word: &[u8], n: usize) -> Line {
         let line = Line {
-            bytes: [0; 80],
+            bytes: [0; ROOM],
             at: 0,
         };
         line.and(word, n)
     }
 
     // What does not fit is dropped.
-    fn byte(mut self, b: u8) -> Line {
+    fn text(mut self, s: &[u8]) -> Line {
         let at = self.at;
-        if at < 80 {
-            self.bytes[at] = b;
-            self.at = at + 1;
-        }
+        let n = s.len().min(ROOM - at);
+        self.bytes[at..at + n].copy_from_slice(&s[..n]);
+        self.at = at + n;
         self
-    }
-
-    fn text(self, s: &[u8]) -> Line {
-        let mut line = self;
-        for i in 0..s.len() {
-            line = line.byte(s[i]);
-        }
-        line
     }
 
     // A word, then a number.
@@ -42,14 +38,8 @@ impl Line {
 
     // Ends the line with a word, and writes it.
     pub(crate) fn end(self, word: &[u8]) {
-        let line = self.text(word).byte(b'\n');
-        let bytes = line.bytes;
-        write(&bytes, line.at);
-    }
-}
-
-fn write(bytes: &[u8], n: usize) {
-    if n <= bytes.len() {
-        io::write_all(1, &bytes[0..n]);
+        let line = self.text(word).text(b"\n");
+        let at = line.at;
+        io::write_all(1, &line.bytes[..at]);
     }
 }

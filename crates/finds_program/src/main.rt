@@ -9,6 +9,7 @@ mod line;
 mod sets;
 
 use line::Line;
+use sets::{KINDS, Kind};
 
 const SIZES: [usize; 10] = [1, 63, 64, 65, 4_095, 4_096, 4_097, 65_536, 262_143, 262_144];
 
@@ -16,28 +17,27 @@ const BORDERS: [usize; 12] = [0, 1, 62, 63, 64, 65, 127, 128, 4_094, 4_095, 4_09
 
 // Document 01's sizes.
 fn document_sizes() {
-    calls::size(64);
-    calls::size(65);
-    calls::size(4_097);
-    calls::size(262_144);
+    for t in [64, 65, 4_097, 262_144] {
+        calls::size(t);
+    }
 }
 
-// Finds at a, b and c in the index of one start.
-fn one_start(index: &mut [u64], t: usize, start: usize, a: usize, b: usize, c: usize) {
+// Finds at places in the index of one start.
+fn one_start(index: &mut [u64], t: usize, start: usize, places: [usize; 3]) {
     calls::prepare(index, t);
     calls::set(index, t, start);
-    calls::find(index, t, a);
-    calls::find(index, t, b);
-    calls::find(index, t, c);
+    for p in places {
+        calls::find(index, t, p);
+    }
 }
 
 // Document 01's finds.
 fn document_finds(index: &mut [u64]) {
     calls::prepare(index, 64);
     calls::find(index, 64, 5);
-    one_start(index, 4_096, 0, 63, 64, 4_095);
-    one_start(index, 4_097, 0, 63, 64, 4_096);
-    one_start(index, 4_096, 70, 70, 69, 128);
+    one_start(index, 4_096, 0, [63, 64, 4_095]);
+    one_start(index, 4_097, 0, [63, 64, 4_096]);
+    one_start(index, 4_096, 70, [70, 69, 128]);
 }
 
 // Says whether the buffer still has the sum that it had before.
@@ -70,8 +70,8 @@ fn refused_size(index: &mut [u64], t: usize) {
 
 // Every call on the first n words only.
 fn lent(index: &mut [u64], n: usize, t: usize, p: usize) {
-    if n <= index.len() {
-        each_call(&mut index[0..n], t, p);
+    if let Some(front) = index.get_mut(..n) {
+        each_call(front, t, p);
     }
 }
 
@@ -79,35 +79,33 @@ fn lent(index: &mut [u64], n: usize, t: usize, p: usize) {
 fn limits(index: &mut [u64], t: usize) {
     let n = calls::words(t);
     let before = garbage::sum(index, 0);
-    lent(index, sets::back(n, 1), t, 0);
+    lent(index, n.saturating_sub(1), t, 0);
     buffer(index, before);
-    lent(index, n, t, sets::back(t, 1));
+    lent(index, n, t, t.saturating_sub(1));
     lent(index, n, t, t);
     lent(index, n, t, usize::MAX);
 }
 
 // The k-th place to look at; x is a place drawn below t.
 fn place(t: usize, k: usize, x: usize) -> usize {
-    if k < 12 {
-        return BORDERS[k];
-    }
     let word = x / 64 * 64;
     let block = x / 4_096 * 4_096;
     match k {
-        12 => sets::back(t, 1),
+        0..=11 => BORDERS[k],
+        12 => t.saturating_sub(1),
         13 => t,
         14 => t / 2,
-        15 => sets::back(t / 2, 1),
+        15 => (t / 2).saturating_sub(1),
         16..=19 => word,
-        20..=23 => sets::back(word, 1),
+        20..=23 => word.saturating_sub(1),
         24..=27 => block,
-        28..=31 => sets::back(block, 1),
+        28..=31 => block.saturating_sub(1),
         _ => x,
     }
 }
 
 // Finds at forty places.
-fn finds(index: &[u64], t: usize, kind: usize) {
+fn finds(index: &[u64], t: usize, kind: Kind) {
     let mut x = sets::seed(t, kind, 1);
     for k in 0..40 {
         x = sets::next(x);
@@ -134,8 +132,8 @@ fn changes(index: &mut [u64], t: usize, p: usize) {
 }
 
 // One set of places: the finds on it, and changes at a place drawn for it and at another.
-fn play_set(index: &mut [u64], t: usize, kind: usize) {
-    Line::new(b"T ", t).and(b" set ", kind).end(b"");
+fn play_set(index: &mut [u64], t: usize, kind: Kind) {
+    Line::new(b"T ", t).and(b" set ", kind as usize).end(b"");
     sets::make(index, t, kind);
     finds(index, t, kind);
     changes(index, t, sets::first(t, kind, 0));
@@ -144,14 +142,14 @@ fn play_set(index: &mut [u64], t: usize, kind: usize) {
 
 // Every kind of set at one size.
 fn play_sets(index: &mut [u64], t: usize) {
-    for kind in 0..sets::KINDS {
+    for kind in KINDS {
         play_set(index, t, kind);
     }
 }
 
 // The number and the sum of the words from word n on.
 fn excess(index: &[u64], n: usize) {
-    let line = Line::new(b"excess words ", sets::back(index.len(), n));
+    let line = Line::new(b"excess words ", index.len().saturating_sub(n));
     line.and(b" sum ", garbage::sum(index, n) as usize).end(b"");
 }
 
@@ -165,8 +163,8 @@ fn play_size(index: &mut [u64], t: usize) {
 }
 
 fn play_sizes(index: &mut [u64]) {
-    for i in 0..10 {
-        play_size(index, SIZES[i]);
+    for t in SIZES {
+        play_size(index, t);
     }
 }
 
@@ -175,8 +173,8 @@ fn main() {
     garbage::fill(&mut index);
     document_sizes();
     document_finds(&mut index);
-    refused_size(&mut index, 0);
-    refused_size(&mut index, 262_145);
-    refused_size(&mut index, usize::MAX);
+    for t in [0, 262_145, usize::MAX] {
+        refused_size(&mut index, t);
+    }
     play_sizes(&mut index);
 }

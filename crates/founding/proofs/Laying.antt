@@ -1,6 +1,6 @@
 -- Frames linked behind those before them: a list of words, a part, a body, all bodies.
 use mathlib.Core.Path.{◌≡◌, refl, sym, ap, ◌∙◌, subst}
-use mathlib.Core.Bool.{true, false, false≢true}
+use mathlib.Core.Bool.{true}
 use mathlib.Core.List.{List, [], ◌∷◌, ◌++◌, map-append, append-nil, append_assoc}
 use Prim.Native.Nat.{ℕ, zero, suc, ◌+◌, ◌-◌, ◌*◌, ◌≤◌, ◌<◌}
 use native.Mathlib.Omega.{arith}
@@ -10,13 +10,14 @@ use Rattle.sequence.specs.Lists.{Each, each_one, each_append, each_left, each_ri
 use Rattle.machine.specs.Map.{Entry, Block, blocks_in, part_in, whole_from}
 use Rattle.machine.specs.MapRules.{entry_frames, entries_of, held_frames}
 use Rattle.distinct.specs.Distinct.{picked, Reach}
-use Rattle.distinct.specs.Laws.{picked_more, picked_slice}
+use Rattle.distinct.specs.Laws.{picked_first, picked_slice}
 use Rattle.walking.specs.Laws.{frames_picked}
 use Rattle.walking.specs.Regions.{Walked, walked_none, walked_all, here, split_here, walked_fits, walked_more}
 use Rattle.founding.specs.Chain.{laid, last_of}
 use Rattle.founding.specs.Laws.{length_laid}
 use Rattle.founding.specs.declared.Laid.{Laid}
-use Rattle.founding.specs.Founding.{LaidIs, Lays}
+use Rattle.founding.specs.Founding.{LaidIs, LastWithin, Lays}
+use Rattle.std.specs.Prelude.{Option, Some, None}
 
 -- every frame has a link
 abbrev pub Low : List ℕ → List ℕ → Type 0
@@ -28,41 +29,30 @@ tail_low link x xs h = each_right 0 (λ f. f < length link) (x ∷ []) xs h
 pub cons_low : (link : List ℕ) (x : ℕ) (xs : List ℕ) → x < length link → Low link xs → Low link (x ∷ xs)
 cons_low link x xs h t = each_append 0 (λ f. f < length link) (x ∷ []) xs (each_one 0 (λ f. f < length link) x h) t
 
--- ---- the loop over words: what is linked so far, and what is left
+-- ---- the loop over words: what is linked so far, and the frames that are left
 
-pub record Linking (ws : List ℕ) (from step n last : ℕ) (link₀ link : List ℕ) (at left end : ℕ) : Type 0 where
+pub record Linking (xs : List ℕ) (last : ℕ) (link₀ link rest : List ℕ) (end : ℕ) : Type 0 where
   pub size : length link ≡ length link₀
-  pub links : laid link₀ last (picked ws from step n) ≡ laid link end (picked ws at step left)
-  pub ends : last_of last (picked ws from step n) ≡ last_of end (picked ws at step left)
-  pub inside : Low link₀ (end ∷ picked ws at step left)
+  pub links : laid link₀ last xs ≡ laid link end rest
+  pub ends : last_of last xs ≡ last_of end rest
+  pub inside : Low link₀ (end ∷ rest)
 
-pub none_linked : {ws : List ℕ} {from step n last : ℕ} {link : List ℕ} → Low link (last ∷ picked ws from step n)
-    → Linking ws from step n last link link from n last
-none_linked h = record { size = refl; links = refl; ends = refl; inside = h }
-
-module _ {ws : List ℕ} {from step n last : ℕ} {link₀ link : List ℕ} {at left end : ℕ} (so_far : Linking ws from step n last link₀ link at left end) where
+module _ {xs : List ℕ} {last : ℕ} {link₀ link rest : List ℕ} {end : ℕ} (so_far : Linking xs last link₀ link rest end) where
   pub end_inside : end < length link
   end_inside = omega (arith, so_far.inside 0 (omega arith), so_far.size)
 
-  pub all_linked : left ≤ 0 → (end ≡ last_of last (picked ws from step n)) × (link ≡ laid link₀ last (picked ws from step n))
-  unfolding laid last_of picked
-  all_linked h =
-      let none : left ≡ 0 = omega arith in (
-        sym (so_far.ends ∙ ap (λ (k : ℕ). last_of end (picked ws at step k)) none),
-        sym (so_far.links ∙ ap (λ (k : ℕ). laid link end (picked ws at step k)) none),
-      )
-
-  pub one_linked : 0 < left → (w : ℕ) → w ≡ get_or ws at 0 → Linking ws from step n last link₀ (set link end w) (at + step) (left - 1) w
+  pub all_linked : rest ≡ [] → (end ≡ last_of last xs) × (link ≡ laid link₀ last xs)
   unfolding laid last_of
-  one_linked some w w-is =
-      let rest = picked ws (at + step) step (left - 1) in
-      let more : picked ws at step left ≡ w ∷ picked ws (at + step) step (left - 1) =
-      picked_more ws at step left some ∙ ap (λ (x : ℕ). x ∷ picked ws (at + step) step (left - 1)) (sym w-is) in
+  all_linked none = (sym (so_far.ends ∙ ap (last_of end) none), sym (so_far.links ∙ ap (laid link end) none))
+
+  pub one_linked : (w : ℕ) (later : List ℕ) → rest ≡ (w ∷ []) ++ later → Linking xs last link₀ (set link end w) later w
+  unfolding laid last_of
+  one_linked w later more =
       record {
         size = length-set link end w ∙ so_far.size;
         links = so_far.links ∙ ap (laid link end) more;
         ends = so_far.ends ∙ ap (last_of end) more;
-        inside = subst (Low link₀) more (tail_low link₀ end (picked ws at step left) so_far.inside);
+        inside = subst (Low link₀) more (tail_low link₀ end rest so_far.inside);
       }
 
 -- ---- a part behind those before it
@@ -82,68 +72,71 @@ unfolding last_of
 last_each P x [] h = h 0 (omega arith)
 last_each P x (y ∷ xs) h = last_each P y xs (each_right 0 P (x ∷ []) (y ∷ xs) h)
 
-lays_none : (l : Laid) (link : List ℕ) → l.last < length link → Lays l link [] l link
-lays_none l link h = record { size = refl; low = h; is = λ link₀ ys i. rw (append-nil ys) i }
+lays_none : (r : Option Laid) (link : List ℕ) → LastWithin r (length link) → Lays r link [] r link
+lays_none r link h = record { size = refl; low = h; is = λ link₀ ys i. rw (append-nil ys) i }
 
 -- behind others
-pub lays_behind : (l : Laid) (link xs : List ℕ) → Low link (l.last ∷ xs) → l.some ≡ true → (last : ℕ) (link' : List ℕ) → last ≡ last_of l.last xs
-    → link' ≡ laid link l.last xs → Lays l link xs (record { first = l.first; last = last; some = true }) link'
-lays_behind l link xs low some last link' last_is link_is =
+pub lays_behind : (l : Laid) (link xs : List ℕ) → Low link (l.last ∷ xs) → (last : ℕ) (link' : List ℕ) → last ≡ last_of l.last xs
+    → link' ≡ laid link l.last xs → Lays (Some l) link xs (Some (record { first = l.first; last = last })) link'
+lays_behind l link xs low last link' last_is link_is =
     record {
       size = ap length link_is ∙ length_laid link l.last xs;
       low = rw (link_is, length_laid link l.last xs, last_is) (last_each (λ f. f < length link) l.last xs low);
       is = go;
     }
   where
-    go : (link₀ ys : List ℕ) → LaidIs link₀ ys l link → LaidIs link₀ (ys ++ xs) (record { first = l.first; last = last; some = true }) link'
-    go link₀ [] (a, b) = absurd (false≢true (sym a ∙ some))
-    go link₀ (y ∷ ys) (a, b, c, d) = (
-      refl,
-      b,
-      last_is ∙ ap (λ (z : ℕ). last_of z xs) c ∙ sym (last_more y ys xs),
-      link_is ∙ ap (λ (z : ℕ). laid link z xs) c ∙ ap (λ (k : List ℕ). laid k (last_of y ys) xs) d ∙ sym (laid_more link₀ y ys xs),
-    )
+    go : (link₀ ys : List ℕ) → LaidIs link₀ ys (Some l) link → LaidIs link₀ (ys ++ xs) (Some (record { first = l.first; last = last })) link'
+    go link₀ [] (a, b) = absurd (cc)
+    go link₀ (y ∷ ys) (a, b) =
+        let f : l.first ≡ y = cc in
+        let c : l.last ≡ last_of y ys = cc in
+        let e : last ≡ last_of y (ys ++ xs) = last_is ∙ ap (λ (z : ℕ). last_of z xs) c ∙ sym (last_more y ys xs) in (
+          cc,
+          link_is ∙ ap (λ (z : ℕ). laid link z xs) c ∙ ap (λ (k : List ℕ). laid k (last_of y ys) xs) b ∙ sym (laid_more link₀ y ys xs),
+        )
 
 -- the first
-lays_first : (l : Laid) (link : List ℕ) (x : ℕ) (xs : List ℕ) → Low link (x ∷ xs) → l.some ≡ false → (last : ℕ) (link' : List ℕ)
-    → last ≡ last_of x xs → link' ≡ laid link x xs → Lays l link (x ∷ xs) (record { first = x; last = last; some = true }) link'
-lays_first l link x xs low none last link' last_is link_is =
+lays_first : (link : List ℕ) (x : ℕ) (xs : List ℕ) → Low link (x ∷ xs) → (last : ℕ) (link' : List ℕ)
+    → last ≡ last_of x xs → link' ≡ laid link x xs → Lays None link (x ∷ xs) (Some (record { first = x; last = last })) link'
+lays_first link x xs low last link' last_is link_is =
     record {
       size = ap length link_is ∙ length_laid link x xs;
       low = rw (link_is, length_laid link x xs, last_is) (last_each (λ f. f < length link) x xs low);
       is = go;
     }
   where
-    go : (link₀ ys : List ℕ) → LaidIs link₀ ys l link → LaidIs link₀ (ys ++ (x ∷ xs)) (record { first = x; last = last; some = true }) link'
-    go link₀ [] (a, b) = (refl, refl, last_is, link_is ∙ ap (λ (k : List ℕ). laid k x xs) b)
-    go link₀ (y ∷ ys) (a, b, c, d) = absurd (false≢true (sym none ∙ a))
+    go : (link₀ ys : List ℕ) → LaidIs link₀ ys None link → LaidIs link₀ (ys ++ (x ∷ xs)) (Some (record { first = x; last = last })) link'
+    go link₀ [] (a, b) = (cc, link_is ∙ ap (λ (k : List ℕ). laid k x xs) b)
+    go link₀ (y ∷ ys) (a, b) = absurd (cc)
 
-pub lays_more : {l l₁ l₂ : Laid} {link link₁ link₂ : List ℕ} (xs ys : List ℕ) → Lays l link xs l₁ link₁ → Lays l₁ link₁ ys l₂ link₂
-    → Lays l link (xs ++ ys) l₂ link₂
-lays_more {l} {l₁} {l₂} {link} {link₁} {link₂} xs ys a b =
+pub lays_more : {r r₁ r₂ : Option Laid} {link link₁ link₂ : List ℕ} (xs ys : List ℕ) → Lays r link xs r₁ link₁ → Lays r₁ link₁ ys r₂ link₂
+    → Lays r link (xs ++ ys) r₂ link₂
+lays_more {r} {r₁} {r₂} {link} {link₁} {link₂} xs ys a b =
     record {
       size = b.size ∙ a.size;
       low = b.low;
-      is = λ link₀ zs i. subst (λ (us : List ℕ). LaidIs link₀ us l₂ link₂) (append_assoc zs xs ys) (b.is link₀ (zs ++ xs) (a.is link₀ zs i));
+      is = λ link₀ zs i. subst (λ (us : List ℕ). LaidIs link₀ us r₂ link₂) (append_assoc zs xs ys) (b.is link₀ (zs ++ xs) (a.is link₀ zs i));
     }
 
-pub lays_zero : (l : Laid) (link ws : List ℕ) (from step n : ℕ) → n ≡ 0 → l.last < length link → Lays l link (picked ws from step n) l link
+pub lays_zero : (r : Option Laid) (link ws : List ℕ) (from step n : ℕ) → n ≡ 0 → LastWithin r (length link) → Lays r link (picked ws from step n) r link
 unfolding picked
-lays_zero l link ws from step n e h = rw e (lays_none l link h)
+lays_zero r link ws from step n e h = rw e (lays_none r link h)
 
-module _ (ws : List ℕ) (from step n x : ℕ) (some : 0 < n) (x-is : x ≡ get_or ws from 0) where
-  first_picked : picked ws from step n ≡ x ∷ picked ws (from + step) step (n - 1)
-  first_picked = picked_more ws from step n some ∙ ap (λ (y : ℕ). y ∷ picked ws (from + step) step (n - 1)) (sym x-is)
+module _ (ws : List ℕ) (from step n x : ℕ) (some : 0 < n) (x-is : x ≡ get_or ws from 0) (link : List ℕ) (low : Low link (picked ws from step n)) where
+  abbrev later : List ℕ
+  later = picked ws (from + step) step (n - 1)
 
-  pub first_low : (link : List ℕ) (y : ℕ) → Low link (y ∷ picked ws from step n) → Low link (x ∷ picked ws (from + step) step (n - 1))
-  first_low link y h = subst (Low link) first_picked (tail_low link y (picked ws from step n) h)
+  first_picked : picked ws from step n ≡ x ∷ later
+  first_picked = picked_first ws from step n x some x-is
 
-  pub lays_picked : (l : Laid) (link : List ℕ) → Low link (l.last ∷ picked ws from step n) → l.some ≡ false → (last : ℕ) (link' : List ℕ)
-      → last ≡ last_of x (picked ws (from + step) step (n - 1)) → link' ≡ laid link x (picked ws (from + step) step (n - 1))
-      → Lays l link (picked ws from step n) (record { first = x; last = last; some = true }) link'
-  lays_picked l link low none last link' last_is link_is =
-      subst (λ (xs : List ℕ). Lays l link xs (record { first = x; last = last; some = true }) link') (sym first_picked)
-      (lays_first l link x (picked ws (from + step) step (n - 1)) (first_low link l.last low) none last link' last_is link_is)
+  pub first_low : Low link (x ∷ later)
+  first_low = subst (Low link) first_picked low
+
+  pub lays_picked : (last : ℕ) (link' : List ℕ) → last ≡ last_of x later → link' ≡ laid link x later
+      → Lays None link (picked ws from step n) (Some (record { first = x; last = last })) link'
+  lays_picked last link' last_is link_is =
+      subst (λ (xs : List ℕ). Lays None link xs (Some (record { first = x; last = last })) link') (sym first_picked)
+      (lays_first link x later first_low last link' last_is link_is)
 
 -- ---- the frames of blocks
 
@@ -166,19 +159,19 @@ frames_one b = ap entry_frames (append-nil b.entries)
 
 -- ---- the loop over a body's regions
 
-pub record Framing (l : Laid) (ws : List ℕ) (first to : ℕ) (link₀ : List ℕ) (after : Laid) (at : ℕ) (link : List ℕ) : Type 0 where
+pub record Framing (r : Option Laid) (ws : List ℕ) (first to : ℕ) (link₀ : List ℕ) (after : Option Laid) (at : ℕ) (link : List ℕ) : Type 0 where
   pub walked : Walked ws first to at
-  pub lays : Lays l link₀ (entry_frames (entries_of walked.done)) after link
+  pub lays : Lays r link₀ (entry_frames (entries_of walked.done)) after link
 
-pub begin_framing : (l : Laid) (ws : List ℕ) (first to : ℕ) (link : List ℕ) → first ≤ to → whole_from 0 (slice first to ws) ≡ true
-    → l.last < length link → Framing l ws first to link l first link
+pub begin_framing : (r : Option Laid) (ws : List ℕ) (first to : ℕ) (link : List ℕ) → first ≤ to → whole_from 0 (slice first to ws) ≡ true
+    → LastWithin r (length link) → Framing r ws first to link r first link
 unfolding entries_of
-begin_framing l ws first to link le w h = record { walked = walked_none ws first to le w; lays = lays_none l link h }
+begin_framing r ws first to link le w h = record { walked = walked_none ws first to le w; lays = lays_none r link h }
 
-module _ {l : Laid} {ws : List ℕ} {first to : ℕ} {link₀ : List ℕ} {after : Laid} {at : ℕ} {link : List ℕ}
-    (x : Framing l ws first to link₀ after at link) where
-  pub body_laid : to ≤ at → Lays l link₀ (entry_frames (entries_of (blocks_in (slice first to ws)))) after link
-  body_laid h = subst (λ (bs : List Block). Lays l link₀ (entry_frames (entries_of bs)) after link) (sym (walked_all x.walked h)) x.lays
+module _ {r : Option Laid} {ws : List ℕ} {first to : ℕ} {link₀ : List ℕ} {after : Option Laid} {at : ℕ} {link : List ℕ}
+    (x : Framing r ws first to link₀ after at link) where
+  pub body_laid : to ≤ at → Lays r link₀ (entry_frames (entries_of (blocks_in (slice first to ws)))) after link
+  body_laid h = subst (λ (bs : List Block). Lays r link₀ (entry_frames (entries_of bs)) after link) (sym (walked_all x.walked h)) x.lays
 
   module _ (long : to ≤ length ws) (some : at < to) (n : ℕ) (n_is : n ≡ get_or ws (at + 2) 0) where
     abbrev b : Block
@@ -191,10 +184,9 @@ module _ {l : Laid} {ws : List ℕ} {first to : ℕ} {link₀ : List ℕ} {after
         ∙ ap (λ (i : ℕ). picked ws i 2 (get_or ws (at + 2) 0)) four
         ∙ ap (picked ws (at + 4) 2) (sym n_is)
 
-    pub region_low : Low link₀ (l.last ∷ entry_frames (entries_of (blocks_in (slice first to ws)))) → Low link (after.last ∷ picked ws (at + 4) 2 n)
-    region_low h =
+    pub region_low : Low link₀ (entry_frames (entries_of (blocks_in (slice first to ws)))) → Low link (picked ws (at + 4) 2 n)
+    region_low all =
         let rest = blocks_in (slice (at + (3 + 2 * get_or ws (at + 2) 0)) to ws) in
-        let all = tail_low link₀ l.last (entry_frames (entries_of (blocks_in (slice first to ws)))) h in
         let cut : entry_frames (entries_of (blocks_in (slice first to ws)))
         ≡ entry_frames (entries_of x.walked.done) ++ (entry_frames b.entries ++ entry_frames (entries_of rest)) =
         ap (λ (bs : List Block). entry_frames (entries_of bs)) (split_here ws x.walked long some)
@@ -204,19 +196,19 @@ module _ {l : Laid} {ws : List ℕ} {first to : ℕ} {link₀ : List ℕ} {after
         let own =
         each_left 0 P (entry_frames b.entries) (entry_frames (entries_of rest))
         (each_right 0 P (entry_frames (entries_of x.walked.done)) _ (subst (Low link₀) cut all)) in
-        cons_low link after.last (picked ws (at + 4) 2 n) x.lays.low (λ k q. rw x.lays.size (subst (Low link₀) frames_here own k q))
+        λ k q. rw x.lays.size (subst (Low link₀) frames_here own k q)
 
     pub region_reach : (bytes : ℕ) → 4 * to ≤ bytes → Reach bytes (at + 4) 2 n
     region_reach bytes h k q = omega (arith, walked_fits ws x.walked long some)
 
-    pub region_laid : {after' : Laid} {link' : List ℕ} → Lays after link (picked ws (at + 4) 2 n) after' link'
-        → Framing l ws first to link₀ after' (at + (3 + 2 * n)) link'
+    pub region_laid : {after' : Option Laid} {link' : List ℕ} → Lays after link (picked ws (at + 4) 2 n) after' link'
+        → Framing r ws first to link₀ after' (at + (3 + 2 * n)) link'
     region_laid {after'} {link'} y =
         let done = entry_frames (entries_of x.walked.done) in
         record {
           walked = walked_more ws x.walked long some n n_is;
           lays =
-              subst (λ (ys : List ℕ). Lays l link₀ ys after' link')
+              subst (λ (ys : List ℕ). Lays r link₀ ys after' link')
               (sym (frames_more x.walked.done (b ∷ [])
               ∙ ap (λ (ys : List ℕ). entry_frames (entries_of x.walked.done) ++ ys) (frames_one b ∙ frames_here)))
               (lays_more done (picked ws (at + 4) 2 n) x.lays y);
@@ -243,14 +235,14 @@ module _ (ws : List ℕ) where
       ap (held_frames ws 0) one ∙ held_last 0 i ∙ ap (λ (j : ℕ). held_frames ws 0 i ++ frames_in j) same
 
   -- no space yet, and a space more
-  pub no_space_laid : (l : Laid) (link : List ℕ) → l.last < length link → Lays l link (held_frames ws 0 0) l link
+  pub no_space_laid : (link : List ℕ) → Lays None link (held_frames ws 0 0) None link
   unfolding held_frames
-  no_space_laid l link h = lays_none l link h
+  no_space_laid link = lays_none None link tt
 
-  pub space_laid : {l l₁ l₂ : Laid} {link link₁ link₂ : List ℕ} (i : ℕ) → Lays l link (held_frames ws 0 i) l₁ link₁
-      → Lays l₁ link₁ (entry_frames (entries_of (blocks_in (part_in ws i)))) l₂ link₂ → Lays l link (held_frames ws 0 (i + 1)) l₂ link₂
-  space_laid {l} {l₁} {l₂} {link} {link₁} {link₂} i a b =
-      subst (λ (xs : List ℕ). Lays l link xs l₂ link₂) (sym (held_next i)) (lays_more (held_frames ws 0 i) (frames_in i) a b)
+  pub space_laid : {r r₁ r₂ : Option Laid} {link link₁ link₂ : List ℕ} (i : ℕ) → Lays r link (held_frames ws 0 i) r₁ link₁
+      → Lays r₁ link₁ (entry_frames (entries_of (blocks_in (part_in ws i)))) r₂ link₂ → Lays r link (held_frames ws 0 (i + 1)) r₂ link₂
+  space_laid {r} {r₁} {r₂} {link} {link₁} {link₂} i a b =
+      subst (λ (xs : List ℕ). Lays r link xs r₂ link₂) (sym (held_next i)) (lays_more (held_frames ws 0 i) (frames_in i) a b)
 
   -- the words of the pool's body, one after another
   pub pool_picked : (i first to : ℕ) → first ≤ to → to ≤ length ws → slice first to ws ≡ part_in ws i → picked ws first 1 (to - first) ≡ part_in ws i

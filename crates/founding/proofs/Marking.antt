@@ -14,7 +14,8 @@ use Rattle.extent.specs.Checks.{places_ok, check_size, check}
 use Rattle.index.specs.Words.{IndexOf}
 use Rattle.index.specs.Promise.{Put}
 use Rattle.index.specs.Laws.{index_front}
-use Rattle.index.specs.declared.Change.{Change}
+use Rattle.std.specs.Prelude.{Result}
+use Rattle.refusals.specs.declared.Refusal.{Refusal}
 use Rattle.machine.specs.Map.{Block, blocks_in, part_in, whole_from}
 use Rattle.distinct.specs.Laws.{adding_append}
 use Rattle.walking.specs.Regions.{Walked, walked_none, walked_all, here, walked_more}
@@ -45,7 +46,7 @@ check_is len t p h l = go (places_ok t && leb (size t) len) h
     go true h = rw (lt-ltb p t l) refl
     go false h = absurd (omega arith)
 
-marked_one : {t p : ℕ} {ws ws' : List ℕ} {a : Change} → Put true t p ws a ws' → Marked t (p ∷ []) ws ws'
+marked_one : {t p : ℕ} {ws ws' : List ℕ} {a : Result (Unit {0}) Refusal} → Put true t p ws a ws' → Marked t (p ∷ []) ws ws'
 unfolding adding
 marked_one {t} {p} {ws} {ws'} x =
     record {
@@ -102,7 +103,7 @@ module _ {t lo : ℕ} {ws : List ℕ} {first to : ℕ} {index₀ : List ℕ} {at
   body_marked h = subst (λ (bs : List Block). Marked t (starts_of lo bs) index₀ index) (sym (walked_all x.walked h)) x.marked
 
   pub region_marked : (long : to ≤ length ws) (some : at < to) (s n : ℕ) → s ≡ get_or ws at 0 → n ≡ get_or ws (at + 2) 0
-      → {a : Change} {index' : List ℕ} → Put true t (lo + s) index a index' → Marking t lo ws first to index₀ (at + (3 + 2 * n)) index'
+      → {a : Result (Unit {0}) Refusal} {index' : List ℕ} → Put true t (lo + s) index a index' → Marking t lo ws first to index₀ (at + (3 + 2 * n)) index'
   region_marked long some s n s-is n_is {a} {index'} p =
       let b = here ws x.walked long some in
       let start : lo + s ≡ lo + b.start = ap (λ (i : ℕ). lo + i) s-is in

@@ -1,5 +1,5 @@
 -- What stands before the first pair: the starts of a file in the index, and its frames linked in the order of the file.
-use Rattle.std.specs.Prelude.{◌≡◌, Bool, true, false, List, [], ◌∷◌, ◌++◌, map, ℕ, zero, suc, ◌+◌, ◌*◌, ◌<◌, length, drop}
+use Rattle.std.specs.Prelude.{◌≡◌, Option, Some, None, IfSome, Bool, List, [], ◌∷◌, ◌++◌, map, ℕ, zero, suc, ◌+◌, ◌*◌, ◌<◌, length, drop}
 use Rattle.sequence.specs.Lists.{Each}
 use Rattle.places.specs.Places.{adding, size}
 use Rattle.extent.specs.Checks.{check_size}
@@ -29,15 +29,19 @@ pub record Marked (t : ℕ) (ps ws ws' : List ℕ) : Type 0 where
 -- ---- the frames
 
 -- the frames xs are linked in order, from the links link₀ on
-abbrev pub LaidIs : List ℕ → List ℕ → Laid → List ℕ → Type 0
-LaidIs link₀ [] l link = (l.some ≡ false) × (link ≡ link₀)
-LaidIs link₀ (x ∷ xs) l link = (l.some ≡ true) × (l.first ≡ x) × (l.last ≡ last_of x xs) × (link ≡ laid link₀ x xs)
+abbrev pub LaidIs : List ℕ → List ℕ → Option Laid → List ℕ → Type 0
+LaidIs link₀ [] r link = (r ≡ None) × (link ≡ link₀)
+LaidIs link₀ (x ∷ xs) r link = (r ≡ Some (record { first = x; last = last_of x xs })) × (link ≡ laid link₀ x xs)
+
+-- the last frame linked, where one is, is below n
+abbrev pub LastWithin : Option Laid → ℕ → Type 0
+LastWithin r n = IfSome r (λ l. l.last < n)
 
 -- the frames xs are linked behind those before them
-pub record Lays (l : Laid) (link xs : List ℕ) (l' : Laid) (link' : List ℕ) : Type 0 where
+pub record Lays (r : Option Laid) (link xs : List ℕ) (r' : Option Laid) (link' : List ℕ) : Type 0 where
   pub size : length link' ≡ length link
-  pub low : l'.last < length link'
-  pub is : (link₀ ys : List ℕ) → LaidIs link₀ ys l link → LaidIs link₀ (ys ++ xs) l' link'
+  pub low : LastWithin r' (length link')
+  pub is : (link₀ ys : List ℕ) → LaidIs link₀ ys r link → LaidIs link₀ (ys ++ xs) r' link'
 
 -- every frame of the bodies, and of the pool, is below n
 pub record LowFrames (n : ℕ) (ws : List ℕ) (spaces : ℕ) : Type 0 where

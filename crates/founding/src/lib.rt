@@ -1,7 +1,7 @@
 // What stands before the first pair of a map that is read: its starts in the index, and its frames linked in the order of the file.
 #![tactic(auto)]
 
-ghost use Rattle.std.specs.Prelude.{◌≡◌, true, ◌∷◌, ◌++◌, ◌+◌, ◌*◌, ◌≤◌, ◌<◌, length};
+ghost use Rattle.std.specs.Prelude.{◌≡◌, None, true, ◌∷◌, ◌++◌, ◌+◌, ◌*◌, ◌≤◌, ◌<◌, length};
 ghost use Rattle.std.proofs.Math.Seq.{slice};
 ghost use Rattle.sequence.specs.Lists.{Each};
 ghost use Rattle.words.specs.Words.{words_in};
@@ -10,25 +10,29 @@ ghost use Rattle.machine.specs.Map.{whole_from, blocks_in, part_in};
 ghost use Rattle.machine.specs.MapRules.{entry_frames, entries_of, held_frames};
 ghost use Rattle.walking.specs.Rows.{Bodied};
 ghost use Rattle.founding.specs.Chain.{laid, last_of};
-ghost use Rattle.founding.specs.Founding.{starts_of, starts_in, Marked, LaidIs, Lays, LowFrames};
+ghost use Rattle.founding.specs.Founding.{starts_of, starts_in, Marked, LaidIs, LastWithin, Lays, LowFrames};
 
 use checks::wide;
-use walking::body_at;
+use walking::{Body, body_at};
 use words::{index_at, word_at};
 
 // ---- the starts
 
-// Puts the starts of the body from word `first` to before word `to` into the index of t places; its space begins at place lo.
-fn mark_body(bytes: &[u8], first: usize, to: usize, lo: usize, t: usize, index: &mut [u64])
-    requires { (first ≤ to) × (4 * to ≤ length bytes.now) × (lo ≤ 262144) × (whole_from 0 (slice first to (words_in bytes.now)) ≡ true) }
-    ensures { Marked t (starts_of lo (blocks_in (slice first to (words_in bytes.now)))) index.old index.new }
+// Puts the starts of the body into the index of t places; its space begins at place lo.
+fn mark_body(bytes: &[u8], body: Body, lo: usize, t: usize, index: &mut [u64])
+    requires { (body.first ≤ body.to)
+        × (4 * body.to ≤ length bytes.now)
+        × (lo ≤ 262144)
+        × (whole_from 0 (slice body.first body.to (words_in bytes.now)) ≡ true) }
+    ensures { Marked t (starts_of lo (blocks_in (slice body.first body.to (words_in bytes.now)))) index.old index.new }
 {
-    let mut at = first;
-    while at < to {
+    let mut at = body.first;
+    // A walk over regions (see the head of crate walking).
+    while at < body.to {
         let p = lo + index_at(bytes, at);
-        index::set(index, t, p);
+        let _ = index::set(index, t, p);
         let n = index_at(bytes, at + 2);
-        at = at + (3 + 2 * n);
+        at += 3 + 2 * n;
     }
 }
 
@@ -38,11 +42,8 @@ pub fn mark_all(bytes: &[u8], spaces: usize, pages: usize, index: &mut [u64])
     ensures { Marked (spaces * pages) (starts_in pages (words_in bytes.now) 0 spaces) index.old index.new }
 {
     let t = spaces * pages;
-    let mut i = 0;
-    while i < spaces {
-        let body = body_at(bytes, i);
-        mark_body(bytes, body.first, body.to, i * pages, t, index);
-        i += 1;
+    for i in 0..spaces {
+        mark_body(bytes, body_at(bytes, i), i * pages, t, index);
     }
 }
 
@@ -55,99 +56,95 @@ fn lay(bytes: &[u8], from: usize, step: usize, n: usize, last: u32, link: &mut [
     ensures { (result ≡ last_of last (picked (words_in bytes.now) from step n))
         × (link.new ≡ laid link.old last (picked (words_in bytes.now) from step n)) }
 {
-    let mut at = from;
-    let mut left = n;
     let mut end = last;
-    while 0 < left {
+    for k in 0..n {
         let e = wide(end);
-        end = word_at(bytes, at);
+        end = word_at(bytes, from + step * k);
         link[e] = end;
-        at += step;
-        left -= 1;
     }
     end
 }
 
-// The first and the last frame linked so far, if some are.
+// The first and the last frame linked so far.
 #[derive(Clone, Copy)]
 pub struct Laid {
     pub first: u32,
     pub last: u32,
-    pub some: bool,
 }
 
 // Links n frames, every so many words from word `from` on, behind those before them.
-fn lay_part(bytes: &[u8], from: usize, step: usize, n: usize, l: Laid, link: &mut [u32]) -> Laid
-    requires { Reach (length bytes.now) from step n × (step ≤ 4)
-        × Each 0 (λ f. f < length link.old) (l.last ∷ picked (words_in bytes.now) from step n) }
-    ensures { Lays l link.old (picked (words_in bytes.now) from step n) result link.new }
+fn lay_part(
+    bytes: &[u8],
+    from: usize,
+    step: usize,
+    n: usize,
+    before: Option<Laid>,
+    link: &mut [u32],
+) -> Option<Laid>
+    requires { Reach (length bytes.now) from step n
+        × (step ≤ 4)
+        × LastWithin before (length link.old)
+        × Each 0 (λ f. f < length link.old) (picked (words_in bytes.now) from step n) }
+    ensures { Lays before link.old (picked (words_in bytes.now) from step n) result link.new }
 {
     if n == 0 {
-        return l;
+        return before;
     }
-    if l.some {
-        let last = lay(bytes, from, step, n, l.last, link);
-        return Laid {
-            first: l.first,
-            last,
-            some: true,
-        };
-    }
-    let first = word_at(bytes, from);
-    let last = lay(bytes, from + step, step, n - 1, first, link);
-    Laid {
-        first,
-        last,
-        some: true,
+    match before {
+        Some(laid) => {
+            let last = lay(bytes, from, step, n, laid.last, link);
+            Some(Laid {
+                first: laid.first,
+                last,
+            })
+        }
+        None => {
+            let first = word_at(bytes, from);
+            let last = lay(bytes, from + step, step, n - 1, first, link);
+            Some(Laid { first, last })
+        }
     }
 }
 
-// Links the frames of the body from word `first` to before word `to`.
-fn lay_body(bytes: &[u8], first: usize, to: usize, l: Laid, link: &mut [u32]) -> Laid
-    requires { (first ≤ to) × (4 * to ≤ length bytes.now) × (whole_from 0 (slice first to (words_in bytes.now)) ≡ true)
-        × Each 0 (λ f. f < length link.old) (l.last ∷ entry_frames (entries_of (blocks_in (slice first to (words_in bytes.now))))) }
-    ensures { Lays l link.old (entry_frames (entries_of (blocks_in (slice first to (words_in bytes.now))))) result link.new }
+// Links the frames of the body behind those before them.
+fn lay_body(bytes: &[u8], body: Body, before: Option<Laid>, link: &mut [u32]) -> Option<Laid>
+    requires { (body.first ≤ body.to)
+        × (4 * body.to ≤ length bytes.now)
+        × (whole_from 0 (slice body.first body.to (words_in bytes.now)) ≡ true)
+        × LastWithin before (length link.old)
+        × Each 0 (λ f. f < length link.old) (entry_frames (entries_of (blocks_in (slice body.first body.to (words_in bytes.now))))) }
+    ensures { Lays before link.old (entry_frames (entries_of (blocks_in (slice body.first body.to (words_in bytes.now))))) result link.new }
 {
-    let mut after = l;
-    let mut at = first;
-    while at < to {
+    let mut laid = before;
+    let mut at = body.first;
+    // A walk over regions (see the head of crate walking).
+    while at < body.to {
         let n = index_at(bytes, at + 2);
-        after = lay_part(bytes, at + 4, 2, n, after, link);
-        at = at + (3 + 2 * n);
+        laid = lay_part(bytes, at + 4, 2, n, laid, link);
+        at += 3 + 2 * n;
     }
-    after
+    laid
 }
 
-// Links the frames of every space's body behind those before them.
-fn lay_spaces(bytes: &[u8], spaces: usize, l: Laid, link: &mut [u32]) -> Laid
-    requires { Bodied (length bytes.now) (words_in bytes.now) spaces × LowFrames (length link.old) (words_in bytes.now) spaces
-        × (l.last < length link.old) }
-    ensures { Lays l link.old (held_frames (words_in bytes.now) 0 spaces) result link.new }
+// Links the frames of every space's body, in the order of the file.
+fn lay_spaces(bytes: &[u8], spaces: usize, link: &mut [u32]) -> Option<Laid>
+    requires { Bodied (length bytes.now) (words_in bytes.now) spaces × LowFrames (length link.old) (words_in bytes.now) spaces }
+    ensures { Lays None link.old (held_frames (words_in bytes.now) 0 spaces) result link.new }
 {
-    let mut after = l;
-    let mut i = 0;
-    while i < spaces {
-        let body = body_at(bytes, i);
-        after = lay_body(bytes, body.first, body.to, after, link);
-        i += 1;
+    let mut laid = None;
+    for i in 0..spaces {
+        laid = lay_body(bytes, body_at(bytes, i), laid, link);
     }
-    after
+    laid
 }
 
-// Links every frame of a file, in its order; answers the first.
-pub fn lay_all(bytes: &[u8], spaces: usize, link: &mut [u32]) -> Laid
-    requires { Bodied (length bytes.now) (words_in bytes.now) spaces × LowFrames (length link.old) (words_in bytes.now) spaces
-        × (0 < length link.old) }
+// Links every frame of a file, in its order; answers the first and the last, or none where there are no frames.
+pub fn lay_all(bytes: &[u8], spaces: usize, link: &mut [u32]) -> Option<Laid>
+    requires { Bodied (length bytes.now) (words_in bytes.now) spaces × LowFrames (length link.old) (words_in bytes.now) spaces }
     ensures { LaidIs link.old
         (held_frames (words_in bytes.now) 0 spaces ++ part_in (words_in bytes.now) spaces) result link.new }
 {
-    let none = Laid {
-        first: 0,
-        last: 0,
-        some: false,
-    };
-    let held = lay_spaces(bytes, spaces, none, link);
-    let body = body_at(bytes, spaces);
-    let n = body.to - body.first;
-    lay_part(bytes, body.first, 1, n, held, link)
+    let held = lay_spaces(bytes, spaces, link);
+    let pool = body_at(bytes, spaces);
+    lay_part(bytes, pool.first, 1, pool.to - pool.first, held, link)
 }

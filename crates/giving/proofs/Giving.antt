@@ -7,12 +7,12 @@ use borrow.Author.Tests.{ltb-true, lt-ltb, lt-leb, le-leb}
 use Rattle.sequence.specs.Changes.{changed_more}
 use Rattle.machine.specs.declared.PageCall.TheVariants.{GiveBack}
 use Rattle.machine.specs.Machine.{Sizes, places, place_of, State, no_pair, region, page_of, every_table, give_back, asked}
-use Rattle.machine.specs.Machine.{page_given_back, Answer, handed, refused, tell, index_in, give_back_page, accepted, step, answer, after}
+use Rattle.machine.specs.Machine.{page_given_back, Answer, handed, refused, tell, index_in, give_back_page, accepted, step}
 use Rattle.machine.specs.Claims.{is_refused}
 use Rattle.machine.proofs.Laws.Sizes.{both}
 use Rattle.machine.proofs.Laws.Lookup.{Mapped, is_mapped, mapped_is}
 use Rattle.machine.proofs.Laws.Holders.{frame_below}
-use Rattle.machine.proofs.Laws.Handed.{stands, region_long}
+use Rattle.machine.proofs.Laws.Handed.{region_long}
 use Rattle.memory.specs.Memory.{Memory, at, sizes_of, lengths}
 use Rattle.memory.specs.declared.Head.{Head}
 use Rattle.lookup.specs.declared.Sight.{Sight}

@@ -2,28 +2,17 @@
 use mathlib.Core.Path.{◌≡◌, refl, sym, ◌∙◌, subst}
 use mathlib.Core.Bool.{Bool, true, false}
 use mathlib.Core.List.{List}
-use Prim.Native.Nat.{ℕ, ◌+◌, ◌-◌, ◌≤◌, ◌<◌}
+use Prim.Native.Nat.{ℕ, ◌-◌, ◌<◌}
 use native.Mathlib.Omega.{arith}
-use lib.Dec.{ltb}
-use lib.ListN.{set}
-use Rattle.machine.specs.declared.GivenBack.TheVariants.{Done}
+use Rattle.std.specs.Prelude.{Result, Ok}
+use Rattle.refusals.specs.declared.Refusal.TheVariants.{Damaged}
 use Rattle.memory.specs.Memory.{at}
 use Rattle.memory.specs.declared.Head.{Head}
-use Rattle.memory.specs.declared.GiveBackOut.{GiveBackOut}
-use Rattle.giving.specs.Models.{leave_ok_at, leave_ok, relinked, refused_out}
-use Rattle.giving.specs.Fits.{Seated, Mendable, Leavable, Leaves, HandedIf, Handed}
+use Rattle.memory.specs.declared.Out.{Out}
+use Rattle.refusals.specs.declared.Refusal.{Refusal}
+use Rattle.giving.specs.Models.{leave_ok_at, leave_ok, refused_out}
+use Rattle.giving.specs.Fits.{Seated, Leavable, Leaves, HandedIf, Handed}
 use Rattle.giving.proofs.Giving.{leave_says}
-
--- i' and n' are the positions, q is the newest page
-module _ (link table stack : List ℕ) (a i n i' n' q : ℕ) (ei : i' ≡ i) (en : n' ≡ n) (eq : q ≡ at stack (a + n)) (f : ℕ) where
-  pub mend_can : Mendable link table stack a i n f (at table (at stack (a + n))) → Mendable link table stack a i' n' f (at table q)
-  mend_can m = rw (ei, en, eq) m
-
-  -- w is the frame that leaves: the region's links, then the pool's
-  pub links_as : (w first : ℕ) (mended after : List ℕ) → w ≡ f
-      → mended ≡ relinked (ltb i' n') link f (at table (at stack (a + i' + 1))) (at table q) → after ≡ set mended w first
-      → after ≡ set (relinked (ltb i n) link f (at table (at stack (a + i + 1))) (at table (at stack (a + n)))) f first
-  links_as w first mended after ew em e = rw (e, em, ew, ei, en, eq)
 
 -- ---- the page at place p, of the region at a, found resident
 
@@ -38,12 +27,6 @@ module _ (h : Head) (t p : ℕ) (count table helper stack cache link : List ℕ)
   -- it stands below the region's count
   below : at helper p < at count a
   below = rw ea s.agrees.below_count
-
-  pub some_page : 1 ≤ at count a
-  some_page = omega (arith, below)
-
-  pub start_small : a < 262144
-  start_small = omega (arith, s.agrees.start_low, s.tabled.inside, s.tabled.few)
 
   -- what the test says, of the positions as the code has them
   module _ (x : Bool) (i' n' : ℕ) (ei : i' ≡ at helper p) (en : n' ≡ at count a - 1) (tested : x ≡ leave_ok_at h table stack t a i' n') where
@@ -74,14 +57,14 @@ module _ (h : Head) (t p : ℕ) (count table helper stack cache link : List ℕ)
           room = omega (arith, f.room, s.few);
         }
 
-    pub handed_no : x ≡ false → (r : GiveBackOut) → r ≡ refused_out h 9 → Handed h count table helper stack cache link t p r count helper stack link
+    pub handed_no : x ≡ false → (r : Out (Result (Unit {0}) Refusal)) → r ≡ refused_out h Damaged → Handed h count table helper stack cache link t p r count helper stack link
     handed_no e r is =
         subst (λ (b : Bool). HandedIf b h count table helper stack cache link p r count helper stack link) (sym (test_is ∙ e))
         (record { out_is = is; count_is = refl; helper_is = refl; stack_is = refl; link_is = refl })
 
     pub handed_yes : x ≡ true → (r : Head) (count' helper' stack' link' : List ℕ)
         → Leaves h count table helper stack link a (at helper p) (at count a - 1) p r count' helper' stack' link'
-        → Handed h count table helper stack cache link t p (record { head = r; answer = Done }) count' helper' stack' link'
+        → Handed h count table helper stack cache link t p (record { head = r; answer = Ok tt }) count' helper' stack' link'
     handed_yes e r count' helper' stack' link' left =
-        subst (λ (b : Bool). HandedIf b h count table helper stack cache link p (record { head = r; answer = Done }) count' helper' stack' link')
+        subst (λ (b : Bool). HandedIf b h count table helper stack cache link p (record { head = r; answer = Ok tt }) count' helper' stack' link')
         (sym (test_is ∙ e)) (refl, rw ea at left)

@@ -1,6 +1,5 @@
 pub mod Chain
 pub mod Holding
 pub mod Giving
-pub mod Tests
 pub mod Leaving
 pub mod Gives

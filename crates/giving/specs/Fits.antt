@@ -1,9 +1,10 @@
 -- What the steps of a hand-back may take for granted and do.
-use Rattle.std.specs.Prelude.{◌≡◌, Bool, true, false, List, ℕ, ◌+◌, ◌-◌, ◌≤◌, ◌<◌, ltb, length, set}
-use Rattle.machine.specs.declared.GivenBack.TheVariants.{Done}
+use Rattle.std.specs.Prelude.{◌≡◌, Bool, true, false, List, ℕ, ◌+◌, ◌-◌, ◌≤◌, ◌<◌, ltb, length, set, Result, Ok}
+use Rattle.refusals.specs.declared.Refusal.TheVariants.{Damaged}
 use Rattle.memory.specs.Memory.{at}
 use Rattle.memory.specs.declared.Head.{Head}
-use Rattle.memory.specs.declared.GiveBackOut.{GiveBackOut}
+use Rattle.memory.specs.declared.Out.{Out}
+use Rattle.refusals.specs.declared.Refusal.{Refusal}
 use Rattle.lookup.specs.Ready.{Tabled}
 use Rattle.lookup.specs.Lookup.{Agrees}
 use Rattle.pool.specs.Models.{with_chain}
@@ -49,18 +50,18 @@ pub record Leaves (h : Head) (count table helper stack link : List ℕ) (a i n p
       (at table p) h.first
 
 -- a hand-back refused: nothing changed
-pub record Stays (h : Head) (count helper stack link : List ℕ) (r : GiveBackOut) (count' helper' stack' link' : List ℕ) : Type 0 where
-  pub out_is : r ≡ refused_out h 9
+pub record Stays (h : Head) (count helper stack link : List ℕ) (r : Out (Result (Unit {0}) Refusal)) (count' helper' stack' link' : List ℕ) : Type 0 where
+  pub out_is : r ≡ refused_out h Damaged
   pub count_is : count' ≡ count
   pub helper_is : helper' ≡ helper
   pub stack_is : stack' ≡ stack
   pub link_is : link' ≡ link
 
 -- by the test: the page has left, or nothing changed
-abbrev pub HandedIf : Bool → Head → List ℕ → List ℕ → List ℕ → List ℕ → List ℕ → List ℕ → ℕ → GiveBackOut → List ℕ → List ℕ → List ℕ → List ℕ → Type 0
+abbrev pub HandedIf : Bool → Head → List ℕ → List ℕ → List ℕ → List ℕ → List ℕ → List ℕ → ℕ → Out (Result (Unit {0}) Refusal) → List ℕ → List ℕ → List ℕ → List ℕ → Type 0
 HandedIf true h count table helper stack cache link p r count' helper' stack' link' =
-    (r.answer ≡ Done) × Leaves h count table helper stack link (at cache p) (at helper p) (at count (at cache p) - 1) p r.head count' helper' stack' link'
+    (r.answer ≡ Ok tt) × Leaves h count table helper stack link (at cache p) (at helper p) (at count (at cache p) - 1) p r.head count' helper' stack' link'
 HandedIf false h count table helper stack cache link p r count' helper' stack' link' = Stays h count helper stack link r count' helper' stack' link'
 
-abbrev pub Handed : Head → List ℕ → List ℕ → List ℕ → List ℕ → List ℕ → List ℕ → ℕ → ℕ → GiveBackOut → List ℕ → List ℕ → List ℕ → List ℕ → Type 0
+abbrev pub Handed : Head → List ℕ → List ℕ → List ℕ → List ℕ → List ℕ → List ℕ → ℕ → ℕ → Out (Result (Unit {0}) Refusal) → List ℕ → List ℕ → List ℕ → List ℕ → Type 0
 Handed h count table helper stack cache link t p = HandedIf (leave_ok h count table helper stack cache t p) h count table helper stack cache link p

@@ -1,10 +1,10 @@
 -- What a hand-back does, on lists.
-use Rattle.std.specs.Prelude.{◌≡◌, Bool, true, false, ◌&&◌, ◌||◌, List, ℕ, ◌+◌, ◌-◌, leb, ltb, set}
+use Rattle.std.specs.Prelude.{◌≡◌, Bool, true, false, ◌&&◌, ◌||◌, List, ℕ, ◌+◌, ◌-◌, leb, ltb, set, Result, Err}
 use Rattle.machine.specs.Machine.{places, place_of, Answer, handed, refused}
 use Rattle.memory.specs.Memory.{Memory, at, sizes_of}
 use Rattle.memory.specs.declared.Head.{Head}
-use Rattle.memory.specs.declared.GiveBackOut.{GiveBackOut}
-use Rattle.machine.specs.declared.GivenBack.TheVariants.{Refused}
+use Rattle.memory.specs.declared.Out.{Out}
+use Rattle.refusals.specs.declared.Refusal.{Refusal}
 use Rattle.lookup.specs.declared.Sight.{Sight}
 use Rattle.lookup.specs.declared.Sight.TheVariants as sight_is
 use Rattle.lookup.specs.Models.{SeenAt}
@@ -59,8 +59,8 @@ left k p =
 
 -- ---- the call
 
-abbrev pub refused_out : Head → ℕ → GiveBackOut
-refused_out h n = record { head = h; answer = Refused n }
+abbrev pub refused_out : Head → Refusal → Out (Result (Unit {0}) Refusal)
+refused_out h e = record { head = h; answer = Err e }
 
 abbrev pub give_says : Sight → Bool → Answer
 give_says (sight_is.Mapped f) true = handed

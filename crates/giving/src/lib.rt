@@ -9,12 +9,13 @@ ghost use Rattle.promise.specs.Did.{Did};
 ghost use Rattle.giving.specs.Models.{pair_ok, neighbour_ok, leave_ok_at, relinked, refused_out};
 ghost use Rattle.giving.specs.Fits.{Seated, Mendable, Leavable, Leaves, Handed};
 
-use checks::{all_places, check, passes, place, wide};
+use checks::{all_places, check, place, wide};
 use lookup::{Sight, see};
-use machine::GivenBack;
-use memory::{ANY, GiveBackOut, Head, Lengths};
+use memory::{ANY, Head, Lengths, Out};
+use refusals::Refusal;
 
 // Whether word w of the stack is a place whose page has a frame.
+#[tactic(auto, unfolding(crate::specs::Models::pair_ok))]
 fn pair_ok(frames: u32, table: &[u32], stack: &[u32], t: usize, w: usize) -> bool
     requires { (w < length stack.now) × (t ≤ length table.now) }
     ensures { result ≡ pair_ok frames table.now stack.now t w }
@@ -27,6 +28,7 @@ fn pair_ok(frames: u32, table: &[u32], stack: &[u32], t: usize, w: usize) -> boo
 }
 
 // The same of the younger neighbour of the page at position i of the region at a; the newest, at position n, has none.
+#[tactic(auto, unfolding(crate::specs::Models::neighbour_ok))]
 fn neighbour_ok(
     frames: u32,
     table: &[u32],
@@ -46,6 +48,7 @@ fn neighbour_ok(
 }
 
 // Whether the words that a hand-back needs are where they may be: the newest page's, and the younger neighbour's.
+#[tactic(auto, unfolding(crate::specs::Models::leave_ok_at))]
 fn leavable(h: Head, table: &[u32], stack: &[u32], t: usize, a: usize, i: usize, n: usize) -> bool
     requires { (t ≤ length table.now) × (t ≤ length stack.now) × (t ≤ 262144) × (a < 262144) × (n < 4294967296) }
     ensures { result ≡ leave_ok_at h table.now stack.now t a i n }
@@ -124,30 +127,31 @@ fn hand_back(
     link: &mut [u32],
     t: usize,
     p: usize,
-) -> GiveBackOut
+) -> Out<Result<(), Refusal>>
     requires { Seated h t p count.old table.now helper.old stack.old cache.now link.old }
-    ensures { Handed h count.old table.now helper.old stack.old cache.now
+    ensures by_test { Handed h count.old table.now helper.old stack.old cache.now
         link.old t p result count.new helper.new stack.new link.new }
+    ensures fresh_value { result.head.fresh ≡ h.fresh }
 {
     let a = wide(cache[p]);
     let i = helper[p];
     let n = count[a] - 1;
     if !leavable(h, table, stack, t, a, wide(i), wide(n)) {
-        return refused(h, 9);
+        return refused(h, Refusal::Damaged);
     }
     let next = leave(h, count, table, helper, stack, link, a, i, n, p);
-    GiveBackOut {
+    Out {
         head: next,
-        answer: GivenBack::Done,
+        answer: Ok(()),
     }
 }
 
-fn refused(head: Head, n: u32) -> GiveBackOut
-    ensures { result ≡ refused_out head n }
+fn refused(head: Head, no: Refusal) -> Out<Result<(), Refusal>>
+    ensures { result ≡ refused_out head no }
 {
-    GiveBackOut {
+    Out {
         head,
-        answer: GivenBack::Refused(n),
+        answer: Err(no),
     }
 }
 
@@ -164,7 +168,7 @@ pub fn give_back(
     stack: &mut [u32],
     cache: &[u32],
     link: &mut [u32],
-) -> GiveBackOut
+) -> Out<Result<(), Refusal>>
     ensures by_index { (ram : List ℕ) →
         Did (machine.give_back space page)
         (memory head index.now count.old table.now helper.old stack.old cache.now
@@ -184,19 +188,17 @@ pub fn give_back(
         link: link.len(),
         ram: ANY,
     };
-    let inside = page < head.pages;
-    if !passes(head, lent, space, inside) {
-        return refused(head, check(head, lent, space, inside));
+    if let Err(no) = check(head, lent, space, page < head.pages) {
+        return refused(head, no);
     }
-    let seen = see(head, space, page, index, count, table, helper, stack, cache);
-    match seen {
+    match see(head, space, page, index, count, table, helper, stack, cache) {
         Sight::Mapped(_) => {
             let t = all_places(head);
             let p = place(head, space, page);
             hand_back(head, count, table, helper, stack, cache, link, t, p)
         }
-        Sight::Unmapped(_, _) => refused(head, 10),
-        Sight::Outside(_) => refused(head, 4),
-        Sight::Broken => refused(head, 9),
+        Sight::Unmapped(_, _) => refused(head, Refusal::PageAbsent),
+        Sight::Outside(_) => refused(head, Refusal::NoRegion),
+        Sight::Broken => refused(head, Refusal::Damaged),
     }
 }

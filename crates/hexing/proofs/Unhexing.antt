@@ -1,17 +1,11 @@
 -- The bytes of a line's hex, written one at a time.
-use mathlib.Core.Path.{◌≡◌, refl, sym, ap, ◌∙◌}
-use mathlib.Core.Bool.{Bool, true, false, cond, ◌&&◌}
-use mathlib.Core.List.{List, [], ◌∷◌, ◌++◌, append_assoc, append-nil}
-use Prim.Native.Nat.{ℕ, ◌+◌, ◌-◌, ◌*◌, ◌≤◌, ◌<◌}
-use native.Mathlib.Numerals.{add-one}
-use native.Mathlib.Omega.{arith}
-use borrow.Author.Tests.{leb-true}
-use lib.Dec.{leb}
-use lib.ListN.{length, take, drop, get_or, set, length-set, take-append-drop}
-use lib.Seq.{take-suc-set, drop-set-lt, drop-drop}
+use Rattle.std.specs.Prelude.{◌≡◌, refl, Bool, true, false, cond, ◌&&◌, List, [], ◌∷◌, ◌++◌, ℕ, ◌+◌, ◌-◌, ◌*◌, ◌≤◌, ◌<◌, leb, length, take, drop, get_or, set}
+use Rattle.std.proofs.Common.{arith, leb-true, sym, ap, ◌∙◌, append_assoc, append-nil, length-drop, length-set, take-append-drop}
+use Rattle.std.proofs.lemmas.List.{take_more_set, drop-set-lt}
+use lib.Seq.{drop-drop, take_all}
 use Rattle.machine.proofs.Laws.Sizes.{both}
 use Rattle.fields.specs.Laws.{here, over}
-use Rattle.hexing.specs.Hex.{is_hex, all_hex, nibble, bytes_in, hex_of, unhexed}
+use Rattle.hexing.specs.Hex.{all_hex, nibble, bytes_in, hex_of, unhexed}
 use Rattle.hexing.specs.Laws.{unhexed_all}
 
 -- ---- nothing is written
@@ -36,81 +30,59 @@ module _ (line : List ℕ) (n : ℕ) (buffer : List ℕ) where
   few_digits h = none_where (λ long room hex. omega arith)
 
   pub not_hex : all_hex (hex_of line n) ≡ false → buffer ≡ unhexed line n buffer
-  not_hex h = none_where (λ long room hex. let z : ◌≡◌ {A = ℕ} 0 1 = cc in omega arith)
+  not_hex h = none_where (λ long room hex. cc)
 
 -- ---- a byte at a time
 
--- the next digit is one, and the others are
-next_hex : (line : List ℕ) (at : ℕ) → at < length line → all_hex (drop at line) ≡ true → (is_hex (get_or line at 0) ≡ true) × (all_hex (drop (at + 1) line) ≡ true)
-unfolding all_hex
-next_hex line at h e = both (is_hex (get_or line at 0)) (all_hex (drop (at + 1) line)) (rw (here line at h) at e)
+-- a line's last digits as the code slices them
+abbrev pub digits_of : List ℕ → ℕ → List ℕ
+digits_of line n = take (length line - (length line - 2 * n)) (hex_of line n)
+
+pub to_end : (line : List ℕ) (n : ℕ) → digits_of line n ≡ hex_of line n
+to_end line n = take_all _ _ (omega (arith, length-drop (length line - 2 * n) line))
+
+pub digits_in : (line : List ℕ) (n : ℕ) → 2 * n ≤ length line → length (digits_of line n) ≡ 2 * n
+digits_in line n h = rw (to_end line n) (omega (arith, length-drop (length line - 2 * n) line))
 
 -- the next two digits are a byte
-pair : (line : List ℕ) (at : ℕ) → at + 1 < length line
-    → bytes_in (drop at line) ≡ (16 * nibble (get_or line at 0) + nibble (get_or line (at + 1) 0)) ∷ bytes_in (drop (at + 2) line)
+pair : (digits : List ℕ) (at : ℕ) → at + 1 < length digits
+    → bytes_in (drop at digits) ≡ (16 * nibble (get_or digits at 0) + nibble (get_or digits (at + 1) 0)) ∷ bytes_in (drop (at + 2) digits)
 unfolding bytes_in
-pair line at h =
+pair digits at h =
     let two : at + 1 + 1 ≡ at + 2 = omega arith in
-    rw (here line at (omega arith), here line (at + 1) h, two)
+    rw (here digits at (omega arith), here digits (at + 1) h, two)
 
 none : bytes_in [] ≡ []
 unfolding bytes_in
 none = refl
 
--- i bytes are written; the rest of the hex starts at a place of the line
-pub record Unhexing (line : List ℕ) (n : ℕ) (before buffer : List ℕ) (at i : ℕ) : Type 0 where
-  pub few : i ≤ n
-  pub place : at + 2 * (n - i) ≡ length line
+-- i bytes are written
+pub record Unhexing (digits before buffer : List ℕ) (i : ℕ) : Type 0 where
   pub size : length buffer ≡ length before
-  pub room : n ≤ length before
-  pub hex : all_hex (drop at line) ≡ true
-  pub whole : unhexed line n before ≡ bytes_in (hex_of line n) ++ drop n before
-  pub front : bytes_in (hex_of line n) ≡ take i buffer ++ bytes_in (drop at line)
+  pub front : bytes_in digits ≡ take i buffer ++ bytes_in (drop (2 * i) digits)
   pub back : drop i buffer ≡ drop i before
 
-pub none_written : (line : List ℕ) (n : ℕ) (buffer : List ℕ) → n ≤ length buffer → 2 * n ≤ length line → all_hex (hex_of line n) ≡ true
-    → Unhexing line n buffer buffer (length line - 2 * n) 0
-none_written line n buffer r h all =
-    record {
-      few = omega arith;
-      place = omega arith;
-      size = refl;
-      room = r;
-      hex = all;
-      whole = unhexed_all line n buffer h r all;
-      front = refl;
-      back = refl;
-    }
+pub none_written : (digits buffer : List ℕ) → Unhexing digits buffer buffer 0
+none_written digits buffer = record { size = refl; front = refl; back = refl }
 
-module _ {line : List ℕ} {n : ℕ} {before buffer : List ℕ} {at i : ℕ} (u : Unhexing line n before buffer at i) where
-  pub all_written : n ≤ i → buffer ≡ unhexed line n before
-  all_written h =
-      let e : i ≡ n = omega (arith, u.few) in
-      let read = over line at (omega (arith, u.place)) in
-      rw (u.whole, u.front, read, none, append-nil, ← e, ← u.back, take-append-drop)
+module _ {digits before buffer : List ℕ} {i : ℕ} (u : Unhexing digits before buffer i) where
+  pub all_written : length digits ≤ 2 * i → buffer ≡ bytes_in digits ++ drop i before
+  all_written h = rw (u.front, over digits (2 * i) h, none, append-nil, ← u.back, take-append-drop)
 
-  module _ (h : i < n) where
-    pub reads : at + 1 < length line
-    reads = omega (arith, u.place)
+  pub one_written : 2 * i + 1 < length digits → i < length before → (v : ℕ) → v ≡ 16 * nibble (get_or digits (2 * i) 0) + nibble (get_or digits (2 * i + 1) 0)
+      → Unhexing digits before (set buffer i v) (i + 1)
+  one_written h r v e =
+      let two : 2 * (i + 1) ≡ 2 * i + 2 = omega arith in
+      let i-in : i < length buffer = omega (arith, u.size) in
+      let rest = sym (drop-drop 1 i buffer) ∙ ap (λ (l : List ℕ). drop 1 l) u.back ∙ drop-drop 1 i before in
+      record {
+        size = length-set buffer i v ∙ u.size;
+        front = u.front ∙ rw (pair digits (2 * i) h, ← e, two, take_more_set buffer i v i-in, append_assoc);
+        back = drop-set-lt (i + 1) buffer i v (omega arith) ∙ rest;
+      }
 
-    pub digits : (is_hex (get_or line at 0) ≡ true) × (is_hex (get_or line (at + 1) 0) ≡ true)
-    digits =
-        let a = next_hex line at (omega (arith, reads)) u.hex in
-        (a.0, (next_hex line (at + 1) reads a.1).0)
-
-    pub one_written : (v : ℕ) → v ≡ 16 * nibble (get_or line at 0) + nibble (get_or line (at + 1) 0)
-        → Unhexing line n before (set buffer i v) (at + 2) (i + 1)
-    one_written v e =
-        let two : at + 1 + 1 ≡ at + 2 = omega arith in
-        let i-in : i < length buffer = omega (arith, u.size, u.room) in
-        let rest = sym (drop-drop 1 i buffer) ∙ ap (λ (l : List ℕ). drop 1 l) u.back ∙ drop-drop 1 i before in
-        record {
-          few = omega arith;
-          place = omega (arith, u.place);
-          size = length-set buffer i v ∙ u.size;
-          room = u.room;
-          hex = rw two at (next_hex line (at + 1) reads (next_hex line at (omega (arith, reads)) u.hex).1).1;
-          whole = u.whole;
-          front = u.front ∙ rw (pair line at reads, ← e, add-one, take-suc-set buffer i v i-in, append_assoc);
-          back = drop-set-lt (i + 1) buffer i v (omega arith) ∙ rest;
-        }
+pub all_unhexed : (line : List ℕ) (n : ℕ) (before buffer : List ℕ) (i : ℕ) → Unhexing (digits_of line n) before buffer i → i ≡ n → 2 * n ≤ length line
+    → n ≤ length before → all_hex (digits_of line n) ≡ true → buffer ≡ unhexed line n before
+all_unhexed line n before buffer i u e long room hex =
+    let all = rw e at (all_written u (omega (arith, digits_in line n long))) in
+    rw (unhexed_all line n before long room (rw (to_end line n) at hex), ← to_end line n) all

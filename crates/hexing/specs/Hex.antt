@@ -1,24 +1,22 @@
 -- Bytes in hex: "two lowercase hex digits each, run together". Definitions only; document 01's words stand beside them in quotation marks.
-use Rattle.std.specs.Prelude.{Bool, true, cond, ◌&&◌, ◌||◌, List, [], ◌∷◌, ◌++◌, ℕ, ◌+◌, ◌-◌, ◌*◌, ◌/◌, ◌%◌, eqb, leb, length, drop}
+use Rattle.std.specs.Prelude.{Bool, cond, ◌&&◌, ◌||◌, List, [], ◌∷◌, ◌++◌, ℕ, ◌+◌, ◌-◌, ◌*◌, ◌/◌, ◌%◌, eqb, leb, length, drop, Option, Some, None}
 use Rattle.fields.specs.Fields.{is_digit}
-use Rattle.hexing.specs.declared.Bytes.{Bytes}
-use Rattle.hexing.specs.declared.Bytes.TheVariants.{Count, Wrong}
+use Rattle.std.specs.List.{list_all}
 
 abbrev pub is_hex : ℕ → Bool
 is_hex c = is_digit c || (leb 97 c && leb c 102)
 
-unfoldable pub all_hex : List ℕ → Bool
-all_hex [] = true
-all_hex (c ∷ cs) = is_hex c && all_hex cs
+abbrev pub all_hex : List ℕ → Bool
+all_hex cs = list_all is_hex cs
 
 -- "hex of at most 256 bytes"
 abbrev pub is_bytes : List ℕ → Bool
 is_bytes cs = leb 2 (length cs) && leb (length cs) 512 && eqb (length cs % 2) 0 && all_hex cs
 
 -- how many: "none for an empty span", else a blank and the hex
-abbrev pub hex_count : List ℕ → Bytes
-hex_count [] = Count 0
-hex_count (c ∷ cs) = cond (eqb c 32 && is_bytes cs) (Count (length cs / 2)) Wrong
+abbrev pub hex_count : List ℕ → Option ℕ
+hex_count [] = Some 0
+hex_count (c ∷ cs) = cond (eqb c 32 && is_bytes cs) (Some (length cs / 2)) None
 
 abbrev pub nibble : ℕ → ℕ
 nibble c = cond (leb c 57) (c - 48) (c - 87)

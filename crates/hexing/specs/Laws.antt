@@ -1,13 +1,11 @@
 -- What a count of bytes says of the line's end, and which bytes its hex is.
-use Rattle.std.specs.Prelude.{◌≡◌, true, ◌&&◌, List, [], ◌∷◌, ◌++◌, ℕ, ◌-◌, ◌*◌, ◌/◌, ◌%◌, ◌≤◌, eqb, leb, drop}
+use Rattle.std.specs.Prelude.{◌≡◌, true, ◌&&◌, List, [], ◌∷◌, ◌++◌, ℕ, ◌-◌, ◌*◌, ◌/◌, ◌%◌, ◌≤◌, eqb, leb, drop, Option, Some, None}
 use native.Mathlib.Omega.{arith}
 use Rattle.std.proofs.Common.{leb-true, eqb-true, le-leb}
 use Rattle.std.proofs.Math.ListN.{length}
 use Rattle.std.proofs.Math.Seq.{drop-length}
 use Rattle.machine.proofs.Laws.Sizes.{both}
 use Rattle.fields.specs.Laws.{either, Ends, tail}
-use Rattle.hexing.specs.declared.Bytes.{Bytes}
-use Rattle.hexing.specs.declared.Bytes.TheVariants.{Count, Wrong}
 use Rattle.hexing.specs.Hex.{all_hex, is_bytes, hex_count, bytes_in, hex_of, unhexed}
 
 -- ---- how many
@@ -18,13 +16,12 @@ module _ (line : List ℕ) where
   Hex n = (2 * n ≤ length line) × (all_hex (hex_of line n) ≡ true)
 
   -- what a count says
-  abbrev pub Counted : Bytes → Type 0
-  Counted (Count n) = (n ≤ 256) × Hex n
-  Counted Wrong = Unit
+  abbrev pub Counted : Option ℕ → Type 0
+  Counted (Some n) = (n ≤ 256) × Hex n
+  Counted None = Unit
 
   -- no bytes: the last 0 bytes of the line are hex
   no_hex : Hex 0
-  unfolding all_hex
   no_hex =
       let all : length line - 2 * 0 ≡ length line = omega arith in
       (omega arith, rw (all, drop-length))
@@ -34,7 +31,7 @@ module _ (line : List ℕ) where
   bytes_counted [] e = (omega arith, no_hex)
   bytes_counted (c ∷ cs) e = either Counted (eqb c 32 && is_bytes cs) _ _ some tt
     where
-      some : (eqb c 32 && is_bytes cs) ≡ true → Counted (Count (length cs / 2))
+      some : (eqb c 32 && is_bytes cs) ≡ true → Counted (Some (length cs / 2))
       some t =
           let p₃ = both _ (all_hex cs) (both (eqb c 32) (is_bytes cs) t).1 in
           let p₂ = both _ (eqb (length cs % 2) 0) p₃.0 in

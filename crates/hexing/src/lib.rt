@@ -2,70 +2,57 @@
 #![tactic(auto)]
 
 ghost use Rattle.std.specs.Prelude.{Bool, ◌≡◌, ◌+◌, ◌*◌, ◌≤◌, length, drop};
-ghost use Rattle.hexing.specs.Hex.{is_hex, all_hex, hex_count, nibble, unhexed};
+ghost use Rattle.hexing.specs.Hex.{is_hex, all_hex, is_bytes, hex_count, nibble, unhexed};
 
 use fields::{BLANK, is_digit};
 
-// The bytes of a write, or that they aren't any.
-#[derive(Clone, Copy)]
-pub enum Bytes {
-    Count(usize),
-    Wrong,
-}
+// The digits of the most bytes that a write has.
+const MOST_DIGITS: usize = 512;
 
+// Two tests, each of one range: of both ranges in one match LLVM makes three comparisons a byte.
 fn is_hex(c: u8) -> bool
     ensures { result ≡ is_hex c }
 {
-    is_digit(c) || (97 <= c && c <= 102)
+    is_digit(c) || matches!(c, b'a'..=b'f')
 }
 
-// Whether every byte from a place on is a hex digit. No byte ends the loop early, so that several are tested at a time.
-fn all_hex(line: &[u8], from: usize) -> bool
-    requires { from ≤ length line.now }
-    ensures { result ≡ all_hex (drop from line.now) }
+// Whether every byte is a hex digit. No byte ends the loop early, so that several are tested at a time.
+fn all_hex(digits: &[u8]) -> bool
+    ensures { result ≡ all_hex digits.now }
 {
     let mut all = true;
-    let mut i = from;
-    while i < line.len() {
-        all = all & is_hex(line[i]);
-        i += 1;
+    for c in digits {
+        all &= is_hex(*c);
     }
     all
 }
 
+fn is_bytes(digits: &[u8]) -> bool
+    ensures { result ≡ is_bytes digits.now }
+{
+    let n = digits.len();
+    2 <= n && n <= MOST_DIGITS && n % 2 == 0 && all_hex(digits)
+}
+
 // How many bytes the rest of a line has in hex, after a blank; none if the line ends here.
-pub fn hex_count(line: &[u8], at: usize) -> Bytes
+pub fn hex_count(line: &[u8], at: usize) -> Option<usize>
     requires { at ≤ length line.now }
     ensures { result ≡ hex_count (drop at line.now) }
 {
-    let rest = line.len() - at;
-    if rest == 0 {
-        return Bytes::Count(0);
+    let Some((blank, digits)) = line[at..].split_first() else {
+        return Some(0);
+    };
+    if *blank != BLANK || !is_bytes(digits) {
+        return None;
     }
-    let n = rest - 1;
-    if line[at] != BLANK {
-        return Bytes::Wrong;
-    }
-    if n < 2 {
-        return Bytes::Wrong;
-    }
-    if 512 < n {
-        return Bytes::Wrong;
-    }
-    if n % 2 != 0 {
-        return Bytes::Wrong;
-    }
-    if !all_hex(line, at + 1) {
-        return Bytes::Wrong;
-    }
-    Bytes::Count(n / 2)
+    Some(digits.len() / 2)
 }
 
 fn value_of(c: u8) -> u8
     requires { is_hex c ≡ Bool.true }
     ensures { (result ≡ nibble c) × (result ≤ 15) }
 {
-    if c <= 57 { c - 48 } else { c - 87 }
+    if c <= b'9' { c - b'0' } else { c - b'a' + 10 }
 }
 
 fn byte_of(a: u8, b: u8) -> u8
@@ -79,20 +66,14 @@ fn byte_of(a: u8, b: u8) -> u8
 pub fn unhex(line: &[u8], n: usize, buffer: &mut [u8])
     ensures { buffer.new ≡ unhexed line.now n buffer.old }
 {
-    if buffer.len() < n {
+    if buffer.len() < n || line.len() / 2 < n {
         return;
     }
-    if line.len() / 2 < n {
+    let digits = &line[line.len() - 2 * n..];
+    if !all_hex(digits) {
         return;
     }
-    let mut at = line.len() - 2 * n;
-    if !all_hex(line, at) {
-        return;
-    }
-    let mut i = 0;
-    while i < n {
-        buffer[i] = byte_of(line[at], line[at + 1]);
-        at += 2;
-        i += 1;
+    for i in 0..n {
+        buffer[i] = byte_of(digits[2 * i], digits[2 * i + 1]);
     }
 }

@@ -23,9 +23,6 @@ pub record Counting (ws : List ℕ) (first to at pairs : ℕ) : Type 0 where
   pub rest : length (entries_of (blocks_in (slice first to ws))) ≡ pairs + length (entries_of (blocks_in (slice at to ws)))
   pub few : first + 2 * pairs ≤ at
 
-pub none_counted : (ws : List ℕ) (first to : ℕ) → first ≤ to → whole_from 0 (slice first to ws) ≡ true → Counting ws first to first 0
-none_counted ws first to low whole = record { low = low; whole = whole; rest = omega arith; few = omega arith }
-
 module _ (ws : List ℕ) (first to at pairs : ℕ) (c : Counting ws first to at pairs) where
   pub all_counted : to ≤ at → pairs ≡ length (entries_of (blocks_in (slice first to ws)))
   unfolding entries_of

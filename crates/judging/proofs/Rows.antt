@@ -7,7 +7,7 @@ use native.Mathlib.Omega.{arith}
 use borrow.Author.Tests.{eq-eqb, ne_eqb}
 use lib.Dec.{eqb}
 use lib.ListN.{length}
-use Rattle.machine.specs.Map.{first_body, row_start, row_length, row_count}
+use Rattle.machine.specs.Map.{row_start, row_length, row_count}
 use Rattle.judging.specs.Contents.{tiles_from, rows_tile, told_from}
 
 -- ---- rows that tile
@@ -16,11 +16,6 @@ use Rattle.judging.specs.Contents.{tiles_from, rows_tile, told_from}
 pub record Tiling (ws : List ℕ) (spaces i at : ℕ) : Type 0 where
   pub rest : rows_tile ws spaces ≡ tiles_from ws i (suc spaces - i) at (length ws)
   pub small : at < 200 + i * 4294967296
-
-pub no_row : (ws : List ℕ) (spaces at : ℕ) → spaces ≤ 64 → at ≡ first_body spaces → Tiling ws spaces 0 at
-no_row ws spaces at few e =
-    let all : suc spaces ≡ suc spaces - 0 = omega arith in
-    record { rest = ap₂ (λ (n k : ℕ). tiles_from ws 0 n k (length ws)) all (sym e); small = omega arith }
 
 module _ (ws : List ℕ) (spaces i at : ℕ) (t : Tiling ws spaces i at) where
   row_more : i ≤ spaces → tiles_from ws i (suc spaces - i) at (length ws)
@@ -56,11 +51,6 @@ module _ (ws : List ℕ) (spaces i at : ℕ) (t : Tiling ws spaces i at) where
 pub record Telling (ws : List ℕ) (spaces i told : ℕ) : Type 0 where
   pub rest : told_from ws 0 (suc spaces) ≡ told + told_from ws i (suc spaces - i)
   pub small : told ≤ i * 4294967296
-
-pub none_told : (ws : List ℕ) (spaces : ℕ) → Telling ws spaces 0 0
-none_told ws spaces =
-    let all : told_from ws 0 (suc spaces) ≡ told_from ws 0 (suc spaces - 0) = ap (told_from ws 0) (omega arith) in
-    record { rest = omega (arith, all); small = omega arith }
 
 module _ (ws : List ℕ) (spaces i told : ℕ) (t : Telling ws spaces i told) where
   pub told_next : i ≤ spaces → (n : ℕ) → n ≡ row_count ws i → n < 4294967296 → Telling ws spaces (i + 1) (told + n)

@@ -13,12 +13,11 @@ use Rattle.machine.specs.Map.{sizes_in}
 use Rattle.machine.specs.MapRules.{contents_words, contents_whole, contents_ok}
 use Rattle.machine.proofs.Laws.PageSizes.{none_of, bytes_of}
 use Rattle.machine.specs.declared.PageSize.{PageSize}
-use Rattle.machine.specs.declared.MadeSize.{MadeSize}
-use Rattle.machine.specs.declared.MadeSize.TheVariants.{Made, Refused}
+use Rattle.refusals.specs.declared.Refusal.{Refusal}
 use Rattle.memory.specs.Memory.{sizes_of}
 use Rattle.memory.specs.declared.Head.{Head}
 use Rattle.judging.specs.Contents.{ContentsAre}
-use Rattle.judging.specs.declared.Contents.TheVariants.{Sizes}
+use Rattle.std.specs.Prelude.{Some, Result, Ok, Err}
 
 module _ (file : List ℕ) where
   pub cut_short : contents_whole file ≡ false → contents_ok file ≡ false
@@ -30,12 +29,12 @@ module _ (file : List ℕ) where
 
   -- the four words read, and the page size made of the last
   module _ (s n f b : ℕ) (s-is : s ≡ get_or (words_in file) 0 0) (n_is : n ≡ get_or (words_in file) 1 0) (f-is : f ≡ get_or (words_in file) 2 0)
-      (b-is : b ≡ get_or (words_in file) 3 0) (made : MadeSize) (of : page_size_says made ≡ page_size_for b) where
-    pub no_page_size : (k : ℕ) → made ≡ Refused k → contents_ok file ≡ false
+      (b-is : b ≡ get_or (words_in file) 3 0) (made : Result PageSize Refusal) (of : page_size_says made ≡ page_size_for b) where
+    pub no_page_size : (k : Refusal) → made ≡ Err k → contents_ok file ≡ false
     unfolding sizes_ok
     no_page_size k e = rw (← b-is, none_of b made of k e, and-false)
 
-    module _ (p : PageSize) (e : made ≡ Made p) where
+    module _ (p : PageSize) (e : made ≡ Ok p) where
       abbrev head : Head
       head = record { spaces = s; pages = n; frames = f; page = p; first = 0; many = 0; fresh = 0 }
 
@@ -47,5 +46,5 @@ module _ (file : List ℕ) where
       pub outside_limits : sizes_ok (sizes_of head) ≡ false → contents_ok file ≡ false
       outside_limits fails = ap (λ (t : Bool). t && contents_whole file) (ap sizes_ok (sym sizes_are) ∙ fails)
 
-      pub sizes_told : sizes_ok (sizes_of head) ≡ true → contents_whole file ≡ true → ContentsAre file (Sizes head)
+      pub sizes_told : sizes_ok (sizes_of head) ≡ true → contents_whole file ≡ true → ContentsAre file (Some head)
       sizes_told passes whole = (rw (ap sizes_ok (sym sizes_are) ∙ passes, whole) refl, sizes_are, refl, refl, refl)

@@ -1,11 +1,10 @@
 -- What is judged of a map file's contents. Definitions only.
-use Rattle.std.specs.Prelude.{◌≡◌, Bool, true, false, ◌&&◌, List, ℕ, zero, suc, ◌+◌, eqb, length}
+use Rattle.std.specs.Prelude.{◌≡◌, Option, Some, None, Bool, true, false, ◌&&◌, List, ℕ, zero, suc, ◌+◌, eqb, length}
 use Rattle.words.specs.Words.{words_in}
 use Rattle.machine.specs.Map.{first_body, sizes_in, row_start, row_length, row_count, part_in, blocks_in}
 use Rattle.machine.specs.MapRules.{entries_of, contents_ok}
 use Rattle.memory.specs.Memory.{sizes_of}
-use Rattle.judging.specs.declared.Contents.{Contents}
-use Rattle.judging.specs.declared.Contents.TheVariants.{Sizes, Bad}
+use Rattle.memory.specs.declared.Head.{Head}
 
 -- ---- rows
 
@@ -31,9 +30,9 @@ told_from ws i (suc n) = row_count ws i + told_from ws (suc i) n
 -- ---- sizes
 
 -- a head with the sizes that the contents tell, and nothing in its pool; or contents that aren't ok
-abbrev pub ContentsAre : List ℕ → Contents → Type 0
-ContentsAre file (Sizes h) = (contents_ok file ≡ true) × (sizes_of h ≡ sizes_in (words_in file)) × (h.first ≡ 0) × (h.many ≡ 0) × (h.fresh ≡ 0)
-ContentsAre file Bad = contents_ok file ≡ false
+abbrev pub ContentsAre : List ℕ → Option Head → Type 0
+ContentsAre file (Some h) = (contents_ok file ≡ true) × (sizes_of h ≡ sizes_in (words_in file)) × (h.first ≡ 0) × (h.many ≡ 0) × (h.fresh ≡ 0)
+ContentsAre file None = contents_ok file ≡ false
 
 -- contents that are ok tell so many spaces, pages and frames
 pub record Sized (file : List ℕ) (spaces pages frames : ℕ) : Type 0 where

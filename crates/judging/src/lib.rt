@@ -12,30 +12,23 @@ ghost use Rattle.judging.specs.Contents.{ContentsAre, Sized, rows_tile, counts_f
 use bodies::{bodies_fine, frames_fine};
 use checks::{sizes_ok, wide};
 use contents::{count_at, is_whole};
-use machine::{MadeSize, PageSize};
+use machine::PageSize;
 use memory::Head;
-use walking::body_at;
+use walking::{Body, body_at};
 use words::{index_at, word_at};
 
-// The sizes that a file's contents tell, as the head of an empty pool; or contents that can't be.
-#[derive(Clone, Copy)]
-pub enum Contents {
-    Sizes(Head),
-    Bad,
-}
-
-// The sizes of a file, tested, with all of its contents there.
-pub fn contents_of(bytes: &[u8]) -> Contents
+// The sizes that a file's contents tell, as the head of an empty pool; none unless they are within the limits and all of the contents is there.
+pub fn contents_of(bytes: &[u8]) -> Option<Head>
     ensures { ContentsAre bytes.now result }
 {
     if bytes.len() < 16 {
-        return Contents::Bad;
+        return None;
     }
     let spaces = word_at(bytes, 0);
     let pages = word_at(bytes, 1);
     let frames = word_at(bytes, 2);
-    let MadeSize::Made(page) = PageSize::of(word_at(bytes, 3)) else {
-        return Contents::Bad;
+    let Ok(page) = PageSize::of(word_at(bytes, 3)) else {
+        return None;
     };
     let head = Head {
         spaces,
@@ -47,12 +40,12 @@ pub fn contents_of(bytes: &[u8]) -> Contents
         fresh: 0,
     };
     if !sizes_ok(head) {
-        return Contents::Bad;
+        return None;
     }
     if !is_whole(bytes) {
-        return Contents::Bad;
+        return None;
     }
-    Contents::Sizes(head)
+    Some(head)
 }
 
 // Whether the bodies of the spaces and the pool follow the contents in order, with no gaps and no word after the last.
@@ -61,13 +54,11 @@ pub fn rows_tile(bytes: &[u8], spaces: usize) -> bool
     ensures { result ≡ rows_tile (words_in bytes.now) spaces }
 {
     let mut at = 4 + 3 * (spaces + 1);
-    let mut i = 0;
-    while i <= spaces {
+    for i in 0..=spaces {
         if index_at(bytes, 4 + 3 * i) != at {
             return false;
         }
         at += index_at(bytes, 4 + (3 * i + 1));
-        i += 1;
     }
     at == bytes.len() / 4
 }
@@ -78,22 +69,21 @@ fn frames_told(bytes: &[u8], spaces: usize) -> usize
     ensures { result ≡ told_from (words_in bytes.now) 0 (suc spaces) }
 {
     let mut told = 0;
-    let mut i = 0;
-    while i <= spaces {
+    for i in 0..=spaces {
         told += count_at(bytes, i);
-        i += 1;
     }
     told
 }
 
-// The pairs of the body from word `first` to before word `to`, by the heads of its regions alone.
-fn pairs_of(bytes: &[u8], first: usize, to: usize) -> usize
-    requires { (first ≤ to) × (4 * to ≤ length bytes.now) × (whole_from 0 (slice first to (words_in bytes.now)) ≡ true) }
-    ensures { result ≡ length (entries_of (blocks_in (slice first to (words_in bytes.now)))) }
+// The pairs of the body, by the heads of its regions alone.
+fn pairs_of(bytes: &[u8], body: Body) -> usize
+    requires { (body.first ≤ body.to) × (4 * body.to ≤ length bytes.now) × (whole_from 0 (slice body.first body.to (words_in bytes.now)) ≡ true) }
+    ensures { result ≡ length (entries_of (blocks_in (slice body.first body.to (words_in bytes.now)))) }
 {
-    let mut at = first;
+    let mut at = body.first;
     let mut pairs = 0;
-    while at < to {
+    // A walk over regions (see the head of crate walking).
+    while at < body.to {
         let n = index_at(bytes, at + 2);
         pairs += n;
         at += 3 + 2 * n;
@@ -106,14 +96,11 @@ pub fn counts_fine(bytes: &[u8], spaces: usize) -> bool
     requires { Bodied (length bytes.now) (words_in bytes.now) spaces }
     ensures { result ≡ counts_from (words_in bytes.now) 0 spaces }
 {
-    let mut i = 0;
-    while i < spaces {
-        let body = body_at(bytes, i);
-        let pairs = pairs_of(bytes, body.first, body.to);
+    for i in 0..spaces {
+        let pairs = pairs_of(bytes, body_at(bytes, i));
         if count_at(bytes, i) != pairs {
             return false;
         }
-        i += 1;
     }
     let pool = body_at(bytes, spaces);
     count_at(bytes, spaces) == pool.to - pool.first
@@ -147,7 +134,7 @@ pub fn inspect(bytes: &[u8]) -> bool
     if bytes.len() % 4 != 0 {
         return false;
     }
-    let Contents::Sizes(head) = contents_of(bytes) else {
+    let Some(head) = contents_of(bytes) else {
         return false;
     };
     rules_kept(

@@ -1,17 +1,16 @@
 -- What the functions on one word and on one layer promise each other and the index.
 use Rattle.std.specs.Prelude.{Bool, true, false, List, ℕ, ◌+◌, ◌*◌, ◌/◌, ◌%◌, ◌^◌, ◌≤◌, ◌<◌, eqb, length, get_or, set}
+use Rattle.std.specs.Prelude as prelude
 use Rattle.std.proofs.Math.Option.{Option, none, some}
 use Rattle.std.specs.Int.Bits.{bit_or, bit_xor}
 use Rattle.layer.specs.declared.Greatest.{Greatest}
-use Rattle.layer.specs.declared.Greatest.TheVariants.{Place, Nothing}
-use Rattle.layer.specs.declared.bits.Highest as highest
-use Rattle.layer.specs.declared.bits.Highest.TheVariants as highest_is
 
 -- ---- one word
 
-abbrev pub highest_says : highest.Highest → Option ℕ
-highest_says (highest_is.Bit k) = some k
-highest_says highest_is.Nothing = none
+-- what the code answers, as the logic's own option
+abbrev pub option_of : prelude.Option ℕ → Option ℕ
+option_of (prelude.Some k) = some k
+option_of prelude.None = none
 
 -- the word w with bit k as v says
 unfoldable pub put_bit : ℕ → ℕ → Bool → ℕ
@@ -34,8 +33,8 @@ pub record SeekAsked (ws : List ℕ) (at bits count : ℕ) : Type 0 where
 
 -- the answer of a seek in word `at` that found this bit, after c words
 unfoldable pub seek_of : ℕ → ℕ → Option ℕ → Greatest
-seek_of at c none = Nothing (c + 1)
-seek_of at c (some k) = Place (at * 64 + k) (c + 1)
+seek_of at c none = record { place = prelude.None; words = c + 1 }
+seek_of at c (some k) = record { place = prelude.Some (at * 64 + k); words = c + 1 }
 
 -- the layer at the front of ws with place p as v says
 abbrev pub put_front : ℕ → Bool → List ℕ → List ℕ

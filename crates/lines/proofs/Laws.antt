@@ -1,5 +1,6 @@
 -- A line's request is the line's call, and what answering it promises.
 use Rattle.std.specs.Prelude.{◌≡◌, refl, Bool, true, false, cond, List, [], ◌∷◌, ◌++◌, ℕ, zero, suc, ◌+◌, ◌-◌, ◌*◌, ◌/◌, ◌≤◌, ◌<◌, leb, length, take, drop}
+use Rattle.std.specs.Prelude.{Some, None}
 use Rattle.std.proofs.Common.{ap, ◌∙◌, subst, arith, le-leb, length-drop, length-append, length-take-le, take_at}
 use Rattle.std.proofs.lemmas.Bool.{lt-leb}
 use Rattle.machine.specs.Machine.{State, Lent, Call as MachineCall, read, write, list, write_map, Answer, answer, after}
@@ -14,10 +15,8 @@ use Rattle.requests.specs.declared.Reply.{Reply}
 use Rattle.requests.specs.declared.Reply.TheVariants as reply_is
 use Rattle.hexing.specs.Hex.{bytes_in, all_hex, hex_of, unhexed}
 use Rattle.hexing.specs.Laws.{unhexed_all}
-use Rattle.parsing.specs.Grammar.{parsed}
+use Rattle.parsing.specs.Grammar.{Line, parsed}
 use Rattle.parsing.specs.Laws.{lined, few_bytes, write_hex}
-use Rattle.parsing.specs.declared.Line.{Line}
-use Rattle.parsing.specs.declared.Line.TheVariants.{Call, Bad}
 use Rattle.digits.specs.Writing.{Wrote}
 use Rattle.texts.specs.Text.{bad_line}
 use Rattle.printing.specs.Text.{text}
@@ -45,7 +44,7 @@ filled_bytes line n buffer long fits hex =
     (take_at (bytes_in (hex_of line n)) (drop n buffer) n (bytes_length n (hex_of line n) (omega (arith, length-drop (length line - 2 * n) line))))
 
 module _ (line : List ℕ) (n : ℕ) (buffer records : List ℕ) (l : Lent) (fits : n ≤ length buffer) (numbers : length records ≡ 3072) where
-  pub line_call_lem : (q : Request) → parsed line ≡ Call q n → requested q (take n (filled_by q line n buffer)) records l ≡ line_call q n line l
+  pub line_call_lem : (q : Request) → parsed line ≡ Some (q, n) → requested q (take n (filled_by q line n buffer)) records l ≡ line_call q n line l
   line_call_lem (Start s p f b) e = refl
   line_call_lem (Page p i b) e = refl
   line_call_lem Free e = refl
@@ -89,7 +88,7 @@ module _ (line : List ℕ) (k : Memory) (at : ℕ) (out buffer records : List �
       → Answers line m k at out end k' out'
   answers_as m x e wrote stands = record { wrote = rw e wrote; stands = rw e stands }
 
-  called : (m : State) (q : Request) (n : ℕ) (over : Bool) → parsed line ≡ Call q n → beyond q ≡ over
+  called : (m : State) (q : Request) (n : ℕ) (over : Bool) → parsed line ≡ Some (q, n) → beyond q ≡ over
       → answered line (lengths k) m ≡ answered_call q n line (lengths k) m over
   called m q n over e b = ap (λ (x : Line). answered_as x line (lengths k) m) e ∙ ap (answered_call q n line (lengths k) m) b
 
@@ -99,7 +98,7 @@ module _ (line : List ℕ) (k : Memory) (at : ℕ) (out buffer records : List �
   abbrev Leaves : List ℕ → Type 0
   Leaves cs = Left line k at out buffer records end k' out' buffer' records' cs
 
-  pub bad_answered : parsed line ≡ Bad → Leaves (cond (leb (at + 8) (length out)) bad_line []) → Promised
+  pub bad_answered : parsed line ≡ None → Leaves (cond (leb (at + 8) (length out)) bad_line []) → Promised
   bad_answered e left =
       record {
         did = rw e left;
@@ -108,7 +107,7 @@ module _ (line : List ℕ) (k : Memory) (at : ℕ) (out buffer records : List �
             answers_as m _ (ap (λ (x : Line). answered_as x line (lengths k) m) e) whole (rw left.memory_stays S);
       }
 
-  pub beyond_answered : (q : Request) (n : ℕ) → parsed line ≡ Call q n → beyond q ≡ true → Leaves (said_text at out (reply_is.Refused 1) [] []) → Promised
+  pub beyond_answered : (q : Request) (n : ℕ) → parsed line ≡ Some (q, n) → beyond q ≡ true → Leaves (said_text at out (reply_is.Refused 1) [] []) → Promised
   beyond_answered q n e over left =
       record {
         did = rw (e, over) left;
@@ -118,14 +117,14 @@ module _ (line : List ℕ) (k : Memory) (at : ℕ) (out buffer records : List �
       }
 
   -- no line asks for more bytes than the longest map has
-  pub short_answered : (q : Request) (n : ℕ) → parsed line ≡ Call q n → beyond q ≡ false → length buffer < n → Leaves [] → Promised
+  pub short_answered : (q : Request) (n : ℕ) → parsed line ≡ Some (q, n) → beyond q ≡ false → length buffer < n → Leaves [] → Promised
   short_answered q n e under short left =
       record {
         did = rw (e, under, lt-leb n (length buffer) short) left;
         honest = λ m S d. absurd (omega (arith, few_bytes line q n e, d.bytes));
       }
 
-  pub call_answered : (q : Request) (n : ℕ) → parsed line ≡ Call q n → beyond q ≡ false → n ≤ length buffer → length (filled_by q line n buffer) ≡ length buffer
+  pub call_answered : (q : Request) (n : ℕ) → parsed line ≡ Some (q, n) → beyond q ≡ false → n ≤ length buffer → length (filled_by q line n buffer) ≡ length buffer
       → (bytes' : List ℕ) → CallAnswered q k (take n (filled_by q line n buffer)) records at out end k' bytes' records' out'
       → buffer' ≡ bytes' ++ drop n (filled_by q line n buffer) → Promised
   call_answered q n e under fits same bytes' a buffer_is =

@@ -1,5 +1,5 @@
 -- In a session the line `map` is never refused with 13: whatever lines came before it, the longest map has room for the state's own.
-use Rattle.std.specs.Prelude.{◌≡◌, refl, Bool, true, false, not, ◌&&◌, List, ◌⊎◌, leb, length}
+use Rattle.std.specs.Prelude.{◌≡◌, refl, Bool, true, false, not, ◌&&◌, List, ◌⊎◌, leb, length, Some, None}
 use Rattle.std.proofs.Common.{sym, ap, ◌∙◌, subst, inl, inr, mul-le-mul, arith, leb-true, le-leb, pow_mono}
 use Rattle.std.proofs.lemmas.Bool.{false≢true}
 use Rattle.std.proofs.Math.Option.{none}
@@ -15,10 +15,8 @@ use Rattle.machine.proofs.Laws.Map.Length.{map_length}
 use Rattle.fields.specs.Fields.{begins}
 use Rattle.requests.specs.declared.Request.{Request}
 use Rattle.requests.specs.declared.Request.TheVariants.{Start, Page, Free, Translate, Read, Write, List as Listing, WriteMap, ReadMap}
-use Rattle.parsing.specs.Grammar.{map_word, longest_map, parsed}
+use Rattle.parsing.specs.Grammar.{Line, map_word, longest_map, parsed}
 use Rattle.parsing.specs.Laws.{lined}
-use Rattle.parsing.specs.declared.Line.{Line}
-use Rattle.parsing.specs.declared.Line.TheVariants.{Call, Bad}
 use Rattle.printing.specs.Text.{text}
 use Rattle.ahead.specs.Ahead.{beyond}
 use Rattle.lines.specs.Session.{line_call, answered_call, answered_as, answered}
@@ -64,7 +62,7 @@ module _ (m : State) (i : InSession m) where
       go zero = begun_in z m.ram w
       go (suc j) = i
 
-  call_in : (line : List ℕ) (l : Lent) (q : Request) (n : ℕ) → parsed line ≡ Call q n → beyond q ≡ false → InSession (after m (line_call q n line l))
+  call_in : (line : List ℕ) (l : Lent) (q : Request) (n : ℕ) → parsed line ≡ Some (q, n) → beyond q ≡ false → InSession (after m (line_call q n line l))
   call_in line l (Start s p f b) n e under = start_in_lem (sizes s p f b) l (within s p f b under)
   call_in line l (Page p j b) n e under = kept_in _ refl
   call_in line l Free n e under = kept_in _ refl
@@ -79,13 +77,13 @@ module _ (m : State) (i : InSession m) where
   pub line_in : (line : List ℕ) (l : Lent) → InSession (answered line l m).after
   line_in line l = go (parsed line) refl
     where
-      made : (q : Request) (n : ℕ) → parsed line ≡ Call q n → (t : Bool) → beyond q ≡ t → InSession (answered_call q n line l m t).after
+      made : (q : Request) (n : ℕ) → parsed line ≡ Some (q, n) → (t : Bool) → beyond q ≡ t → InSession (answered_call q n line l m t).after
       made q n e true over = i
       made q n e false under = call_in line l q n e under
 
       go : (x : Line) → parsed line ≡ x → InSession (answered_as x line l m).after
-      go Bad e = i
-      go (Call q n) e = made q n e (beyond q) refl
+      go None e = i
+      go (Some (q, n)) e = made q n e (beyond q) refl
 
 -- ---- the map
 

@@ -1,5 +1,5 @@
 -- What answering a line promises: on any memory and buffers, and with room for an answer on memory that stands for a machine.
-use Rattle.std.specs.Prelude.{◌≡◌, Bool, true, false, cond, List, [], ◌++◌, ℕ, ◌+◌, ◌≤◌, leb, length, take, drop}
+use Rattle.std.specs.Prelude.{◌≡◌, Bool, true, false, cond, List, [], ◌++◌, ℕ, ◌+◌, ◌≤◌, leb, length, take, drop, Some, None}
 use Rattle.machine.specs.Machine.{State}
 use Rattle.memory.specs.Memory.{Memory, lengths}
 use Rattle.pages.specs.Serves.{Serves}
@@ -7,9 +7,7 @@ use Rattle.serving.specs.Steps.{Stands}
 use Rattle.requests.specs.declared.Request.{Request}
 use Rattle.requests.specs.declared.Reply.{Reply}
 use Rattle.requests.specs.declared.Reply.TheVariants as reply_is
-use Rattle.parsing.specs.Grammar.{longest_map, parsed}
-use Rattle.parsing.specs.declared.Line.{Line}
-use Rattle.parsing.specs.declared.Line.TheVariants.{Call, Bad}
+use Rattle.parsing.specs.Grammar.{Line, longest_map, parsed}
 use Rattle.digits.specs.Writing.{Wrote}
 use Rattle.texts.specs.Text.{bad_line}
 use Rattle.printing.specs.Writing.{said_text, Says}
@@ -48,8 +46,8 @@ module _ (line : List ℕ) (k : Memory) (at : ℕ) (out buffer records : List �
   RequestDid q n false true = Made q n
 
   abbrev pub LineDid : Line → Type 0
-  LineDid Bad = Left (cond (leb (at + 8) (length out)) bad_line [])
-  LineDid (Call q n) = RequestDid q n (beyond q) (leb n (length buffer))
+  LineDid None = Left (cond (leb (at + 8) (length out)) bad_line [])
+  LineDid (Some (q, n)) = RequestDid q n (beyond q) (leb n (length buffer))
 
 -- ---- where there is room and the memory stands for a machine
 

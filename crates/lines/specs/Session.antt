@@ -1,13 +1,11 @@
 -- A session of lines: what the plain machine answers to each. Document 01, "One session whole".
-use Rattle.std.specs.Prelude.{Bool, true, false, List, [], ℕ}
+use Rattle.std.specs.Prelude.{Bool, true, false, List, [], ℕ, Some, None}
 use Rattle.machine.specs.Machine as machine
 use Rattle.requests.specs.Requests.{requested}
 use Rattle.requests.specs.declared.Request.{Request}
 use Rattle.requests.specs.declared.Request.TheVariants.{Start, Page, Free, Translate, Read, Write, List as Listing, WriteMap, ReadMap}
 use Rattle.hexing.specs.Hex.{bytes_in, hex_of}
-use Rattle.parsing.specs.Grammar.{parsed}
-use Rattle.parsing.specs.declared.Line.{Line}
-use Rattle.parsing.specs.declared.Line.TheVariants.{Call, Bad}
+use Rattle.parsing.specs.Grammar.{Line, parsed}
 use Rattle.texts.specs.Text.{bad_line}
 use Rattle.printing.specs.Text.{text}
 use Rattle.ahead.specs.Ahead.{beyond}
@@ -39,8 +37,8 @@ answered_call q count line l m false =
 
 -- "A line it can't read gives `bad line`"
 abbrev pub answered_as : Line → List ℕ → machine.Lent → machine.State → LineAnswer
-answered_as Bad line l m = record { answer_text = bad_line; after = m }
-answered_as (Call q count) line l m = answered_call q count line l m (beyond q)
+answered_as None line l m = record { answer_text = bad_line; after = m }
+answered_as (Some (q, count)) line l m = answered_call q count line l m (beyond q)
 
 abbrev pub answered : List ℕ → machine.Lent → machine.State → LineAnswer
 answered line l m = answered_as (parsed line) line l m

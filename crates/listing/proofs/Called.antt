@@ -1,30 +1,26 @@
 -- The whole call: what a check that passed says of the space, what a list is to answer, and the promise from the records filled.
-use mathlib.Core.Path.{◌≡◌, refl, sym, ap, ◌∙◌}
-use mathlib.Core.Bool.{true}
-use mathlib.Core.List.{List}
-use Prim.Native.Nat.{ℕ, ◌+◌, ◌-◌, ◌*◌, ◌/◌, ◌≤◌, ◌<◌}
-use native.Mathlib.Nat.{mul-le-mul_right, div-mul-le_self}
-use native.Mathlib.Omega.{arith}
-use lib.ListN.{length}
-use Rattle.machine.specs.Machine.{places, place_of, sizes_ok, State, records_of}
+use Rattle.std.specs.Prelude.{◌≡◌, refl, true, List, ℕ, ◌+◌, ◌-◌, ◌*◌, ◌/◌, ◌≤◌, ◌<◌, length, Ok, Err}
+use Rattle.std.proofs.Common.{sym, ap, ◌∙◌, arith, mul-le-mul_right, div-mul-le_self}
+use Rattle.machine.specs.Machine.{places, place_of, sizes_ok, State, records_of, refused}
 use Rattle.machine.proofs.Laws.Sizes.{fit}
-use Rattle.machine.specs.declared.Listed.TheVariants.{Regions}
+use Rattle.refusals.specs.declared.Refusal.{Refusal}
+use Rattle.refusals.specs.Refusals.{number}
 use Rattle.memory.specs.Memory.{Memory, memory, sizes_of}
 use Rattle.memory.specs.declared.Head.{Head}
 use Rattle.promise.specs.Holds.{Holds}
-use Rattle.promise.specs.Filled.{records_in, records_filled, ListDid}
+use Rattle.promise.specs.Filled.{records_in, ListDid}
 use Rattle.laws.specs.Models.{lent_to, check_of}
 use Rattle.laws.specs.Checking.{CheckPassed, ready}
 use Rattle.laws.specs.Finds.{index_passes}
 use Rattle.listing.specs.Listing.{records_below, list_refused, list_short, list_filled}
-use Rattle.listing.specs.declared.Surveyed.{Surveyed}
-use Rattle.listing.specs.Steps.{Indexed, Counted, Many, Tellable, Surveys, refused_with, Fills}
+use Rattle.listing.specs.declared.Cursor.{Cursor}
+use Rattle.listing.specs.Steps.{Indexed, Counted, Many, Lists, ToTell, Fills}
 
 -- ---- a check that passed
 
-module _ (h : Head) (index count i no : ℕ) (checked : no ≡ check_of h (lent_to index count) i true) (passes : no ≡ 0) where
+module _ (h : Head) (index count i : ℕ) (checked : ◌≡◌ {A = ℕ} 0 (check_of h (lent_to index count) i true)) where
   is_ready : CheckPassed h (lent_to index count) i true
-  is_ready = ready h (lent_to index count) i true (sym checked ∙ passes)
+  is_ready = ready h (lent_to index count) i true (sym checked)
 
   pub sizes_pass : sizes_ok (sizes_of h) ≡ true
   sizes_pass = is_ready.sizes_ok_lem
@@ -39,22 +35,13 @@ module _ (h : Head) (index count i no : ℕ) (checked : no ≡ check_of h (lent_
 
 -- ---- what a list is to answer, whatever tables stand around index and counts
 
-module _ (h : Head) (ws count : List ℕ) (i room no : ℕ) (checked : no ≡ check_of h (lent_to (length ws) (length count)) i true) where
-  none_to_tell : Tellable (refused_with 0).regions count
-  none_to_tell = record { low = omega arith; few = omega arith; count_long = omega arith }
+module _ (h : Head) (ws count : List ℕ) (i room : ℕ) where
+  pub refused_early : (e : Refusal) → number e ≡ check_of h (lent_to (length ws) (length count)) i true → Lists h i room ws count (refused (number e))
+  refused_early e checked table helper stack cache link ram = list_refused i room (memory h ws count table helper stack cache link ram) e checked
 
-  pub refused_early : (no ≡ 0 → ⊥) → Surveys h i room ws count (refused_with no)
-  refused_early d =
-      record {
-        tellable = none_to_tell;
-        told = refl;
-        fits = omega arith;
-        did = λ rs shows table helper stack cache link ram. list_refused i room (memory h ws count table helper stack cache link ram) rs no checked d;
-      }
-
-  -- once it passed, and the regions are counted
-  module _ (passes : no ≡ 0) (t lo w : ℕ) (t-is : t ≡ places (sizes_of h)) (lo-is : lo ≡ place_of (sizes_of h) i 0) (w-is : w ≡ h.pages)
-      (regions n : ℕ) (many : Many t lo (lo + w) ws regions) (n_is : n ≡ regions) where
+  -- once the check passed, and the regions are counted
+  module _ (checked : ◌≡◌ {A = ℕ} 0 (check_of h (lent_to (length ws) (length count)) i true)) (t lo w : ℕ) (t-is : t ≡ places (sizes_of h))
+      (lo-is : lo ≡ place_of (sizes_of h) i 0) (w-is : w ≡ h.pages) (n left : ℕ) (many : Many t lo (lo + w) ws n) (left_is : left ≡ n) where
     -- honest memory
     module _ (table helper stack cache link ram : List ℕ) (m : State) (o : Holds m (memory h ws count table helper stack cache link ram)) where
       abbrev k : Memory
@@ -75,52 +62,44 @@ module _ (h : Head) (ws count : List ℕ) (i room no : ℕ) (checked : no ≡ ch
           let first : lo ≡ place_of m.sizes i 0 = lo-is ∙ ap (λ z. place_of z i 0) o.sizes_are in
           rw (pages, first)
 
-      counts : regions ≡ length (records_of m i)
-      counts = many m indexed ∙ ap length same_records
+      counts : left ≡ length (records_of m i)
+      counts = left_is ∙ many m indexed ∙ ap length same_records
 
-    pub short : room < n → Surveys h i room ws count (refused_with 11)
-    short less =
-        record {
-          tellable = none_to_tell;
-          told = refl;
-          fits = omega arith;
-          did = λ rs shows table helper stack cache link ram.
-              list_short i room (memory h ws count table helper stack cache link ram) rs no checked passes regions (counts table helper stack cache link ram)
-              (omega arith);
-        }
+    pub short : room < left → Lists h i room ws count (refused 11)
+    short less table helper stack cache link ram =
+        list_short i room (memory h ws count table helper stack cache link ram) checked left (counts table helper stack cache link ram) less
 
-    pub to_tell : n ≤ room → Surveys h i room ws count (record { answer = Regions regions; regions = record { left = n; places = t; lo = lo; end = lo + w } })
-    to_tell enough =
-        let inside = space_inside h (length ws) (length count) i no checked passes t lo w t-is lo-is w-is in
+    pub to_tell : left ≤ room → n < 4294967296 → ToTell h i room ws count (record { left = left; places = t; lo = lo; end = lo + w })
+    to_tell enough few =
+        let inside = space_inside h (length ws) (length count) i checked t lo w t-is lo-is w-is in
         record {
-          tellable =
-              record { low = inside.0; few = inside.1; count_long = rw t-is ((is_ready h (length ws) (length count) i no checked passes).lent.count refl) };
-          told = sym n_is;
+          tellable = record { low = inside.0; few = inside.1; count_long = rw t-is ((is_ready h (length ws) (length count) i checked).lent.count refl) };
           fits = enough;
+          few = omega arith;
           did = λ rs shows table helper stack cache link ram.
-              list_filled i room (memory h ws count table helper stack cache link ram) rs no checked passes regions (counts table helper stack cache link ram)
-              (omega arith)
+              list_filled i room (memory h ws count table helper stack cache link ram) checked left (counts table helper stack cache link ram) rs enough
               (λ m o.
               let x = indexed table helper stack cache link ram m o in
-              shows m x (counted table helper stack cache link ram m o) (n_is ∙ many m x) ∙ same_records table helper stack cache link ram m o);
+              shows m x (counted table helper stack cache link ram m o) (left_is ∙ many m x) ∙ same_records table helper stack cache link ram m o);
         }
 
 -- ---- the promise from the records filled
 
-module _ {h : Head} {i : ℕ} {ws count : List ℕ} (slice : List ℕ) {r : Surveyed} (s : Surveys h i (length slice / 3) ws count r) where
-  room_found : 3 * r.regions.left ≤ length slice
-  room_found = omega (arith, s.fits, div-mul-le_self (length slice) 3)
+module _ {h : Head} {i : ℕ} {ws count : List ℕ} (slice : List ℕ) where
+  pub room_found : {c : Cursor} → ToTell h i (length slice / 3) ws count c → 3 * c.left ≤ length slice
+  room_found s = omega (arith, s.fits, div-mul-le_self (length slice) 3)
 
-  pub filled : {slice' : List ℕ} → Fills r.regions ws count slice slice' → (table helper stack cache link ram : List ℕ)
-      → ListDid i (memory h ws count table helper stack cache link ram) r.answer slice slice'
-  filled {slice'} fills table helper stack cache link ram =
-      let n = s.told in
+  pub filled : {c : Cursor} {slice' : List ℕ} → ToTell h i (length slice / 3) ws count c → Fills c ws count slice slice'
+      → (table helper stack cache link ram : List ℕ) → ListDid i (memory h ws count table helper stack cache link ram) (Ok c.left) slice slice'
+  filled {c} {slice'} s fills table helper stack cache link ram =
       record {
-        did = s.did (records_in (records_filled r.answer) slice') (rw n fills.right) table helper stack cache link ram;
-        kept = λ k refused.
-            let none : r.regions.left ≡ 0 = sym n ∙ ap records_filled refused in
-            let at_all : 3 * r.regions.left ≡ 0 = omega arith in
-            rw at_all at fills.after_last;
-        fits = rw n room_found;
-        after_last = rw n fills.after_last;
+        did = s.did (records_in c.left slice') fills.right table helper stack cache link ram;
+        kept = λ e is. absurd (let z : ◌≡◌ {A = ℕ} 0 1 = cc in omega arith);
+        fits = room_found s;
+        after_last = fills.after_last;
       }
+
+  pub not_filled : (e : Refusal) → Lists h i (length slice / 3) ws count (refused (number e)) → (table helper stack cache link ram : List ℕ)
+      → ListDid i (memory h ws count table helper stack cache link ram) (Err e) slice slice
+  not_filled e did table helper stack cache link ram =
+      record { did = did table helper stack cache link ram; kept = λ e is. refl; fits = omega arith; after_last = refl }

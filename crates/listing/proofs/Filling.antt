@@ -9,8 +9,8 @@ use Rattle.machine.specs.declared.Region.{Region}
 use Rattle.promise.specs.Filled.{records_in}
 use Rattle.listing.specs.declared.Cursor.{Cursor}
 use Rattle.listing.specs.declared.Told.{Told}
-use Rattle.listing.specs.Laws.{TellsOn, none_told, one_told, all_told}
-use Rattle.listing.specs.Steps.{Tellable, Tells, with_record, Fills}
+use Rattle.listing.specs.Laws.{TellsOn, one_told, all_told}
+use Rattle.listing.specs.Steps.{Tells, with_record, Fills}
 
 -- ---- one record put
 
@@ -52,11 +52,6 @@ pub record Filling (c₀ : Cursor) (index count slice slice' : List ℕ) (c : Cu
   pub tells : TellsOn c₀ index count c (records_in (c₀.left - c.left) (drop (3 * c.left) slice'))
 
 module _ {c₀ : Cursor} {index count slice : List ℕ} where
-  pub none_filled : Tellable c₀ count → Filling c₀ index count slice slice c₀
-  none_filled t =
-      let nothing : c₀.left - c₀.left ≡ 0 = omega arith in
-      record { size = refl; after_last = refl; tells = rw nothing (none_told t) }
-
   module _ {slice' : List ℕ} {c : Cursor} (so_far : Filling c₀ index count slice slice' c) where
     pub all_filled : c.left ≤ 0 → Fills c₀ index count slice slice'
     all_filled done =
@@ -66,11 +61,6 @@ module _ {c₀ : Cursor} {index count slice : List ℕ} where
         record { after_last = so_far.after_last; right = all_told none (rw (all, from) at so_far.tells) }
 
     module _ (room : 3 * c₀.left ≤ length slice) {r : Told} (told : Tells c index count r) where
-      pub puttable : (3 * r.rest.left + 1 < length slice') × (3 * r.rest.left + 2 < length slice')
-      puttable =
-          let last : 3 * r.rest.left + 2 < length slice' = omega (arith, so_far.tells.few, so_far.size, told.one_less) in
-          (omega arith, last)
-
       pub one_filled : Filling c₀ index count slice (with_record slice' r.rest.left r.region) r.rest
       one_filled =
           let k = r.rest.left in
@@ -79,5 +69,5 @@ module _ {c₀ : Cursor} {index count slice : List ℕ} where
           record {
             size = length_put slice' k r.region ∙ so_far.size;
             after_last = put_rest slice' k r.region (3 * c₀.left) (omega (arith, so_far.tells.few, told.one_less)) ∙ so_far.after_last;
-            tells = rw (more, put_first slice' k r.region (c₀.left - c.left) puttable.1, next) (one_told so_far.tells told);
+            tells = rw (more, put_first slice' k r.region (c₀.left - c.left) (omega (arith, so_far.tells.few, so_far.size, told.one_less)), next) (one_told so_far.tells told);
           }

@@ -1,28 +1,19 @@
 -- The last region told, from the greatest start below the end.
 use mathlib.Core.Path.{◌≡◌, sym, ap}
+use Rattle.std.specs.Prelude.{Option, Some, None}
 use mathlib.Core.List.{List}
-use Prim.Native.Nat.{ℕ, ◌-◌, ◌≤◌, ◌<◌}
+use Prim.Native.Nat.{ℕ, ◌-◌, ◌<◌}
 use native.Mathlib.Omega.{arith}
 use lib.ListN.{length}
 use Rattle.machine.specs.Machine.{region}
 use Rattle.machine.specs.declared.Region.{Region}
 use Rattle.memory.specs.Memory.{at}
-use Rattle.listing.specs.declared.Below.{Below}
-use Rattle.listing.specs.declared.Below.TheVariants.{Start, Nothing}
 use Rattle.listing.specs.declared.Cursor.{Cursor}
 use Rattle.listing.specs.Steps.{StartBelow, Tellable, Tells}
 use Rattle.listing.proofs.Counting.{start_inside, found_record, left_with, none_left}
 
-module _ {c : Cursor} {ws count : List ℕ} {b : Below} (some : 0 < c.left) (t : Tellable c count) (found : StartBelow c.places c.lo c.end ws b) where
-  module _ {a : ℕ} (h : b ≡ Start a) where
-    pub countable : (a < length count) × (a < 262144)
-    countable =
-        let inside = start_inside found h in
-        (omega (arith, t.low, t.count_long), omega (arith, t.low, t.few))
-
-    pub region_asks : (c.lo ≤ a) × (a < c.end) × (c.end ≤ 262144)
-    region_asks = ((start_inside found h).0, (start_inside found h).1, omega (arith, t.low, t.few))
-
+module _ {c : Cursor} {ws count : List ℕ} {b : Option ℕ} (some : 0 < c.left) (t : Tellable c count) (found : StartBelow c.places c.lo c.end ws b) where
+  module _ {a : ℕ} (h : b ≡ Some a) where
     pub start_told : Tells c ws count
         (record {
           region = record { start = a - c.lo; length = c.end - a; resident = at count a };
@@ -41,7 +32,7 @@ module _ {c : Cursor} {ws count : List ℕ} {b : Below} (some : 0 < c.left) (t :
         }
 
   -- which no honest index answers
-  pub nothing_told : b ≡ Nothing → (r : Region)
+  pub nothing_told : b ≡ None → (r : Region)
       → Tells c ws count (record { region = r; rest = record { left = c.left - 1; places = c.places; lo = c.lo; end = c.end } })
   nothing_told h r =
       record {

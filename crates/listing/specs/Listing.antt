@@ -10,11 +10,12 @@ use native.Mathlib.Omega.{arith}
 use Rattle.std.proofs.lemmas.Bool.{lt-leb}
 use Rattle.places.specs.Laws.{Last}
 use Rattle.machine.specs.declared.PageCall.TheVariants.{Mark}
-use Rattle.machine.specs.Machine.{State, sizes_ok, is_start, region, until_start, records, records_of, list_if, Answer, list, asked, accepted}
+use Rattle.machine.specs.Machine.{State, sizes_ok, is_start, region, until_start, records, records_of, list_if, Answer, list, asked, accepted, refused, regions}
 use Rattle.machine.proofs.Laws.Sizes.{fit}
-use Rattle.machine.specs.Answers.{listed_says}
 use Rattle.machine.specs.declared.Region.{Region}
-use Rattle.machine.specs.declared.Listed.TheVariants.{Regions, Refused}
+use Rattle.refusals.specs.declared.Refusal.{Refusal}
+use Rattle.refusals.specs.Refusals.{number}
+use Rattle.refusals.proofs.Laws.{not_none}
 use Rattle.memory.specs.Memory.{Memory, sizes_of, lengths}
 use Rattle.promise.specs.Holds.{Holds}
 use Rattle.promise.specs.Did.{Later, Did}
@@ -107,28 +108,32 @@ list_check k i room = go (sizes_ok (sizes_of k.head)) refl
     go true e = rw (lt-ltb 0 k.head.pages (fit (sizes_of k.head) e).some_pages) at (page_check k i 0 Mark (mark_lengths k) refl)
     go false e = rw e
 
--- a list with room for so many records answers with rs, if with any
-module _ (i room : ℕ) (k : Memory) (rs : List Region) where
-  pub list_refused : (n : ℕ) → n ≡ check_of k.head (mark_lengths k) i true → (n ≡ 0 → ⊥) → Did (list i room) k (listed_says (Refused n) rs) k
-  list_refused zero e d = absurd (d refl)
-  list_refused (suc n) e d = early_did (list i room) k n (sym (e ∙ list_check k i room))
+-- a list with room for so many records
+module _ (i room : ℕ) (k : Memory) where
+  pub list_refused : (e : Refusal) → number e ≡ check_of k.head (mark_lengths k) i true → Did (list i room) k (refused (number e)) k
+  list_refused e checked = go (number e) refl
+    where
+      go : (n : ℕ) → number e ≡ n → Did (list i room) k (refused n) k
+      go zero is = absurd (not_none e is)
+      go (suc n) is = early_did (list i room) k n (sym (list_check k i room) ∙ sym checked ∙ is)
 
-  module _ (n : ℕ) (checked : n ≡ check_of k.head (mark_lengths k) i true) (passes : n ≡ 0) where
+  module _ (checked : ◌≡◌ {A = ℕ} 0 (check_of k.head (mark_lengths k) i true)) where
     listed : (a : Answer) → Later (sizes_of k.head) (list i room (lengths k)) a
         → ((m : State) → Holds m k → a ≡ list_if (records_of m i) (leb (length (records_of m i)) room))
         → Did (list i room) k a k
     unfolding accepted
     listed a later says =
         let c = list i room (lengths k) in
-        let e : asked (sizes_of k.head) c ≡ 0 = sym (list_check k i room) ∙ sym checked ∙ passes in
+        let e : asked (sizes_of k.head) c ≡ 0 = sym (list_check k i room) ∙ sym checked in
         kept_did (list i room) k a e later (tt, tt)
         (λ m h.
         let o = passed_step m c (ap (λ z. asked z c) (sym h.sizes_are) ∙ e) in
         (says m h ∙ ap (λ x. x.answer) (sym o), ap (λ x. x.after) o))
 
     module _ (many : ℕ) (counted : (m : State) → Holds m k → many ≡ length (records_of m i)) where
-      pub list_short : room < many → Did (list i room) k (listed_says (Refused 11) rs) k
+      pub list_short : room < many → Did (list i room) k (refused 11) k
       list_short h = listed _ (inr (inl refl), refl) (λ m o. rw (← counted m o, lt-leb many room h))
 
-      pub list_filled : many ≤ room → ((m : State) → Holds m k → rs ≡ records_of m i) → Did (list i room) k (listed_says (Regions many) rs) k
-      list_filled h filled = listed _ refl (λ m o. rw (← counted m o, le-leb many room h, filled m o))
+      -- rs are the records, on honest memory
+      pub list_filled : (rs : List Region) → many ≤ room → ((m : State) → Holds m k → rs ≡ records_of m i) → Did (list i room) k (regions rs) k
+      list_filled rs h filled = listed _ refl (λ m o. rw (← counted m o, le-leb many room h, filled m o))

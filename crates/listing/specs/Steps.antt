@@ -1,22 +1,19 @@
 -- What the steps of list promise each other: on any memory they stay in bounds, on honest memory they find the machine's regions.
-use Rattle.std.specs.Prelude.{◌≡◌, false, List, [], ◌∷◌, ◌++◌, ℕ, ◌+◌, ◌*◌, ◌≤◌, ◌<◌, length, drop, set}
+use Rattle.std.specs.Prelude.{◌≡◌, false, List, [], ◌∷◌, ◌++◌, ℕ, ◌+◌, ◌*◌, ◌≤◌, ◌<◌, length, drop, set, Option, Some, None, Result, Ok, Err}
 use Rattle.places.specs.Laws.{Last}
 use Rattle.extent.specs.Checks.{check}
 use Rattle.index.specs.Words.{IndexOf}
-use Rattle.machine.specs.Machine.{State, is_start, region, list}
-use Rattle.machine.specs.Answers.{listed_says}
+use Rattle.machine.specs.Machine.{State, is_start, region, Answer, list, refused, regions}
 use Rattle.machine.specs.declared.Region.{Region}
-use Rattle.machine.specs.declared.Listed.TheVariants.{Refused}
 use Rattle.memory.specs.Memory.{memory, at}
 use Rattle.memory.specs.declared.Head.{Head}
 use Rattle.promise.specs.Did.{Did}
-use Rattle.promise.specs.Filled.{records_in, records_filled}
+use Rattle.promise.specs.Filled.{records_in}
+use Rattle.refusals.specs.declared.Refusal.{Refusal}
+use Rattle.refusals.specs.Refusals.{number}
 use Rattle.listing.specs.Listing.{records_below}
-use Rattle.listing.specs.declared.Below.{Below}
-use Rattle.listing.specs.declared.Below.TheVariants.{Start, Nothing}
 use Rattle.listing.specs.declared.Cursor.{Cursor}
 use Rattle.listing.specs.declared.Told.{Told}
-use Rattle.listing.specs.declared.Surveyed.{Surveyed}
 
 -- ---- honest memory, of t places
 
@@ -30,15 +27,15 @@ Counted m t count = (p : ℕ) → p < t → at count p ≡ length (region m p)
 
 -- ---- the greatest start from place lo on and below place e
 
-abbrev pub Within : ℕ → ℕ → Below → Type 0
-Within lo e (Start a) = (lo ≤ a) × (a < e)
-Within lo e Nothing = Unit {0}
+abbrev pub Within : ℕ → ℕ → Option ℕ → Type 0
+Within lo e (Some a) = (lo ≤ a) × (a < e)
+Within lo e None = Unit {0}
 
-abbrev pub Greatest : State → ℕ → ℕ → Below → Type 0
-Greatest m lo e (Start a) = Last (is_start m) e a
-Greatest m lo e Nothing = (q : ℕ) → lo ≤ q → q < e → is_start m q ≡ false
+abbrev pub Greatest : State → ℕ → ℕ → Option ℕ → Type 0
+Greatest m lo e (Some a) = Last (is_start m) e a
+Greatest m lo e None = (q : ℕ) → lo ≤ q → q < e → is_start m q ≡ false
 
-pub record StartBelow (t lo e : ℕ) (ws : List ℕ) (r : Below) : Type 0 where
+pub record StartBelow (t lo e : ℕ) (ws : List ℕ) (r : Option ℕ) : Type 0 where
   pub any : Within lo e r
   pub right : (m : State) → Indexed m t ws → Greatest m lo e r
 
@@ -68,16 +65,22 @@ pub record Tells (c : Cursor) (ws count : List ℕ) (r : Told) : Type 0 where
 
 -- ---- what a list with some room answers and tells
 
-abbrev pub refused_with : ℕ → Surveyed
-refused_with n = record { answer = Refused n; regions = record { left = 0; places = 0; lo = 0; end = 0 } }
+-- on any memory with these tables, space i is listed with an answer
+abbrev pub Lists : Head → ℕ → ℕ → List ℕ → List ℕ → Answer → Type 0
+Lists h i room ws count a =
+    (table helper stack cache link ram : List ℕ)
+    → Did (list i room) (memory h ws count table helper stack cache link ram) a (memory h ws count table helper stack cache link ram)
 
-pub record Surveys (h : Head) (i room : ℕ) (ws count : List ℕ) (r : Surveyed) : Type 0 where
-  pub tellable : Tellable r.regions count
-  pub told : records_filled r.answer ≡ r.regions.left
-  pub fits : r.regions.left ≤ room
-  pub did : (rs : List Region) → Shows r.regions ws count rs → (table helper stack cache link ram : List ℕ)
-      → Did (list i room) (memory h ws count table helper stack cache link ram) (listed_says r.answer rs)
-      (memory h ws count table helper stack cache link ram)
+-- c are the regions to be told
+pub record ToTell (h : Head) (i room : ℕ) (ws count : List ℕ) (c : Cursor) : Type 0 where
+  pub tellable : Tellable c count
+  pub fits : c.left ≤ room
+  pub few : c.left < 4294967296
+  pub did : (rs : List Region) → Shows c ws count rs → Lists h i room ws count (regions rs)
+
+abbrev pub Surveys : Head → ℕ → ℕ → List ℕ → List ℕ → Result Cursor Refusal → Type 0
+Surveys h i room ws count (Ok c) = ToTell h i room ws count c
+Surveys h i room ws count (Err e) = Lists h i room ws count (refused (number e))
 
 -- ---- a slice of numbers, three a record
 

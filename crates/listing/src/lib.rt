@@ -6,19 +6,12 @@
 ghost use Rattle.std.specs.Prelude.{◌≡◌, List, ℕ, ◌+◌, ◌-◌, ◌*◌, ◌≤◌, ◌<◌, length};
 ghost use Rattle.memory.specs.Memory.{memory};
 ghost use Rattle.promise.specs.Filled.{ListDid};
-ghost use Rattle.listing.specs.Steps.{StartBelow, Many, Tellable, Tells, Surveys, refused_with, with_record, Fills};
+ghost use Rattle.listing.specs.Steps.{StartBelow, Many, Tellable, Tells, Surveys, with_record, Fills};
 
 use checks::{all_places, check, place, wide};
-use index::Found;
-use machine::{Listed, Region};
+use machine::Region;
 use memory::{ANY, Head, Lengths};
-
-// The greatest start below a place, or none.
-#[derive(Clone, Copy)]
-pub enum Below {
-    Start(usize),
-    Nothing,
-}
+use refusals::Refusal;
 
 // The regions still to be told, the last first: `left` of them, in the space that begins at place `lo` and below place
 // `end`, of `places` in all.
@@ -37,31 +30,20 @@ pub struct Told {
     pub rest: Cursor,
 }
 
-// The answer of a list, and the regions to be told with it: none where it is refused.
-#[derive(Clone, Copy)]
-pub struct Surveyed {
-    pub answer: Listed,
-    pub regions: Cursor,
-}
-
 // The greatest start from place lo on and below place end.
-fn start_below(index: &[u64], t: usize, lo: usize, end: usize) -> Below
+fn start_below(index: &[u64], t: usize, lo: usize, end: usize) -> Option<usize>
     requires { end ≤ t }
     ensures { StartBelow t lo end index.now result }
 {
     if end <= lo {
-        return Below::Nothing;
+        return None;
     }
-    match index::find(index, t, end - 1) {
-        Found::Start(a, _) => {
-            if a < lo {
-                return Below::Nothing;
-            }
-            Below::Start(a)
-        }
-        Found::Missing(_) => Below::Nothing,
-        Found::Refused(_, _) => Below::Nothing,
+    let found = index::find(index, t, end - 1).ok()?;
+    let a = found.place?;
+    if a < lo {
+        return None;
     }
+    Some(a)
 }
 
 // How many regions start from place lo on and below place end.
@@ -71,13 +53,11 @@ fn count_regions(index: &[u64], t: usize, lo: usize, end: usize) -> u32
 {
     let mut n = 0;
     let mut last = end;
-    loop {
-        let Below::Start(a) = start_below(index, t, lo, last) else {
-            return n;
-        };
+    while let Some(a) = start_below(index, t, lo, last) {
         n += 1;
         last = a;
     }
+    n
 }
 
 // The region from place a to before place end of the space that begins at place lo.
@@ -97,55 +77,35 @@ pub fn last_region(index: &[u64], count: &[u32], regions: Cursor) -> Told
     requires { (0 < regions.left) × Tellable regions count.now }
     ensures { Tells regions index.now count.now result }
 {
-    let places = regions.places;
-    let lo = regions.lo;
-    let end = regions.end;
     let left = regions.left - 1;
-    match start_below(index, places, lo, end) {
-        Below::Start(a) => {
-            let region = region_at(lo, a, end, count[a]);
-            let rest = Cursor {
+    match start_below(index, regions.places, regions.lo, regions.end) {
+        Some(a) => Told {
+            region: region_at(regions.lo, a, regions.end, count[a]),
+            rest: Cursor {
                 left,
-                places,
-                lo,
                 end: a,
-            };
-            Told { region, rest }
-        }
-        Below::Nothing => {
-            let region = Region {
+                ..regions
+            },
+        },
+        None => Told {
+            region: Region {
                 start: 0,
                 length: 0,
                 resident: 0,
-            };
-            let rest = Cursor {
-                left,
-                places,
-                lo,
-                end,
-            };
-            Told { region, rest }
-        }
+            },
+            rest: Cursor { left, ..regions },
+        },
     }
 }
 
-fn refused(number: u32) -> Surveyed
-    ensures { result ≡ refused_with number }
-{
-    let none = Cursor {
-        left: 0,
-        places: 0,
-        lo: 0,
-        end: 0,
-    };
-    Surveyed {
-        answer: Listed::Refused(number),
-        regions: none,
-    }
-}
-
-// What a list with room for so many records is to answer and to tell. Reads only.
-pub fn survey(head: Head, space: u32, room: usize, index: &[u64], count: &[u32]) -> Surveyed
+// The regions that a list with room for so many records is to tell, or its refusal. Reads only.
+pub fn survey(
+    head: Head,
+    space: u32,
+    room: usize,
+    index: &[u64],
+    count: &[u32],
+) -> Result<Cursor, Refusal>
     ensures { Surveys head space room index.now count.now result }
 {
     let lent = Lengths {
@@ -158,28 +118,20 @@ pub fn survey(head: Head, space: u32, room: usize, index: &[u64], count: &[u32])
         link: ANY,
         ram: ANY,
     };
-    let no = check(head, lent, space, true);
-    if no != 0 {
-        return refused(no);
-    }
+    check(head, lent, space, true)?;
     let places = all_places(head);
     let lo = place(head, space, 0);
     let end = lo + wide(head.pages);
-    let n = count_regions(index, places, lo, end);
-    let left = wide(n);
+    let left = wide(count_regions(index, places, lo, end));
     if room < left {
-        return refused(11);
+        return Err(Refusal::FewRecords);
     }
-    let regions = Cursor {
+    Ok(Cursor {
         left,
         places,
         lo,
         end,
-    };
-    Surveyed {
-        answer: Listed::Regions(n),
-        regions,
-    }
+    })
 }
 
 // Puts record k of a slice of numbers, three a record.
@@ -199,23 +151,28 @@ fn fill(index: &[u64], count: &[u32], records: &mut [u32], regions: Cursor)
     ensures { Fills regions index.now count.now records.old records.new }
 {
     let mut rest = regions;
+    // A `while`: the cursor itself counts down what is left.
     while 0 < rest.left {
         let told = last_region(index, count, rest);
         rest = told.rest;
-        let region = told.region;
-        put_record(records, rest.left, region);
+        put_record(records, rest.left, told.region);
     }
 }
 
 // One record a region of a space, ascending, three numbers each: start, length, resident pages. Those after
 // the last stay.
-pub fn list(head: Head, space: u32, records: &mut [u32], index: &[u64], count: &[u32]) -> Listed
+pub fn list(
+    head: Head,
+    space: u32,
+    records: &mut [u32],
+    index: &[u64],
+    count: &[u32],
+) -> Result<u32, Refusal>
     ensures { (table helper stack cache link ram : List ℕ) →
         ListDid space (memory head index.now count.now table helper stack cache link ram) result records.old
         records.new }
 {
-    let s = survey(head, space, records.len() / 3, index, count);
-    let regions = s.regions;
+    let regions = survey(head, space, records.len() / 3, index, count)?;
     fill(index, count, records, regions);
-    s.answer
+    Ok(regions.left as u32)
 }

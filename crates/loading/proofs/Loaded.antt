@@ -29,8 +29,7 @@ use Rattle.starting.proofs.Starting.{Begun, begun_as}
 use Rattle.starting.proofs.Stands.{begun_stands}
 use Rattle.judging.specs.Bodied.{file_bodied}
 use Rattle.judging.specs.Contents.{ContentsAre}
-use Rattle.judging.specs.declared.Contents.{Contents}
-use Rattle.judging.specs.declared.Contents.TheVariants.{Bad, Sizes as SizesTold}
+use Rattle.std.specs.Prelude.{Option, Some, None}
 use Rattle.restoring.specs.Founded.{Founded}
 use Rattle.restoring.specs.Laws.{rules_founded}
 use Rattle.loading.specs.Loading.{Fronted, fronted_words, bad_contents, too_short, not_a_map, restored_did}
@@ -129,7 +128,7 @@ module _ (file : List ℕ) (h : Head) (index count table helper stack cache link
 
 -- ---- the whole call
 
-module _ (file : List ℕ) (head : Head) (index count table helper stack cache link : List ℕ) (r : Contents) (told : ContentsAre file r) where
+module _ (file : List ℕ) (head : Head) (index count table helper stack cache link : List ℕ) (r : Option Head) (told : ContentsAre file r) where
   abbrev before : List ℕ → Memory
   before ram = memory head index count table helper stack cache link ram
 
@@ -141,11 +140,11 @@ module _ (file : List ℕ) (head : Head) (index count table helper stack cache l
       → (h' : Head) (a : Answer) → (h' ≡ head) × (a ≡ refused n) → DidRead h' a
   refused_as n d h' a out ram = rw (out.0, out.1) (d ram)
 
-  pub bad_read : r ≡ Bad → (h' : Head) (a : Answer) → (h' ≡ head) × (a ≡ refused 12) → DidRead h' a
+  pub bad_read : r ≡ None → (h' : Head) (a : Answer) → (h' ≡ head) × (a ≡ refused 12) → DidRead h' a
   bad_read is = refused_as 12 (λ ram. bad_contents file (before ram) (subst (ContentsAre file) is told))
 
-  module _ (next : Head) (is : r ≡ SizesTold next) (number : ℕ) (checked : number ≡ check_of next (table_lengths (before [])) 0 true) where
-    sized : ContentsAre file (SizesTold next)
+  module _ (next : Head) (is : r ≡ Some next) (number : ℕ) (checked : number ≡ check_of next (table_lengths (before [])) 0 true) where
+    sized : ContentsAre file (Some next)
     sized = subst (ContentsAre file) is told
 
     pub short_read : (number ≡ 0 → ⊥) → (h' : Head) (a : Answer) → (h' ≡ head) × (a ≡ refused number) → DidRead h' a

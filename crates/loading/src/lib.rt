@@ -9,9 +9,9 @@ ghost use Rattle.promise.specs.Did.{Did};
 ghost use Rattle.loading.specs.Steps.{Loadable, Loads};
 
 use checks::check;
-use judging::{Contents, contents_of, inspect};
-use machine::Done;
-use memory::{ANY, Head, Lengths, StartOut};
+use judging::{contents_of, inspect};
+use memory::{ANY, Head, Lengths, Out};
+use refusals::Refusal;
 use restoring::restore;
 use starting::{begin, not_started};
 
@@ -51,7 +51,7 @@ pub fn read_map(
     stack: &mut [u32],
     cache: &mut [u32],
     link: &mut [u32],
-) -> StartOut
+) -> Out<Result<(), Refusal>>
     ensures { (ram : List ℕ) →
         Did (machine.read_map file.now)
         (memory head index.old count.old table.old helper.old stack.old cache.old
@@ -60,8 +60,8 @@ pub fn read_map(
         (memory result.head index.new count.new table.new helper.new stack.new cache.new
         link.new ram) }
 {
-    let Contents::Sizes(next) = contents_of(file) else {
-        return not_started(head, 12);
+    let Some(next) = contents_of(file) else {
+        return not_started(head, Refusal::NoMap);
     };
     let lent = Lengths {
         index: index.len(),
@@ -73,16 +73,15 @@ pub fn read_map(
         link: link.len(),
         ram: ANY,
     };
-    let no = check(next, lent, 0, true);
-    if no != 0 {
+    if let Err(no) = check(next, lent, 0, true) {
         return not_started(head, no);
     }
     if !inspect(file) {
-        return not_started(head, 12);
+        return not_started(head, Refusal::NoMap);
     }
     let after = load(file, next, index, count, table, helper, stack, cache, link);
-    StartOut {
+    Out {
         head: after,
-        answer: Done::Ok,
+        answer: Ok(()),
     }
 }

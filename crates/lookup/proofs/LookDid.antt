@@ -6,7 +6,6 @@ use Rattle.machine.specs.declared.PageCall.TheVariants.{Look}
 use Rattle.machine.specs.Machine.{State, look, asked, Answer, accepted, answer, after}
 use Rattle.memory.specs.Memory.{Memory, sizes_of, lengths}
 use Rattle.lookup.specs.declared.Sight.{Sight}
-use Rattle.lookup.specs.declared.Sight.TheVariants as sight_is
 use Rattle.promise.specs.Holds.{Holds}
 use Rattle.promise.specs.Did.{Did}
 use Rattle.lookup.specs.Models.{SeenAt, look_says, Looks, LookDone}

@@ -1,26 +1,27 @@
 -- A look keeps the promise.
-use Rattle.std.specs.Prelude.{◌≡◌, refl, Bool, true, false, List, ℕ, ◌<◌, leb, ltb}
+use Rattle.std.specs.Prelude.{◌≡◌, refl, Bool, true, false, List, ℕ, ◌<◌, leb, ltb, Option, Some, None}
 use Rattle.std.proofs.Common.{inl, inr, arith, ltb-true}
-use Rattle.index.specs.declared.Found.{Found}
-use Rattle.index.specs.declared.Found.TheVariants as found_is
+use Rattle.layer.specs.declared.Greatest.{Greatest}
 use Rattle.machine.specs.Machine.{places, place_of, State, Lent, words_at, page_of, look, look_page}
 use Rattle.memory.specs.Memory.{Memory, at, sizes_of}
 use Rattle.lookup.specs.declared.Sight.{Sight}
 use Rattle.lookup.specs.declared.Sight.TheVariants as sight_is
 use Rattle.promise.specs.Shown.{resident_ok}
 use Rattle.promise.specs.Did.{Later}
-use Rattle.lookup.specs.Models.{sight_mapped, sight_in, sight_found, SeenIf, Seen, SeenAt, look_says}
+use Rattle.lookup.specs.Models.{sight_mapped, sight_in, sight_by, sight_found, SeenIf, Seen, SeenAt, look_says}
 use Rattle.lookup.specs.Lookup.{SightIs}
 
 -- no find shows a frame, and a frame in the table counts below F only
-not_found : (lo f : ℕ) (r : Found) → sight_is.Mapped f ≡ sight_found lo r → ⊥
-not_found lo f (found_is.Start a c) e = go (leb lo a) e
+not_found : (lo f : ℕ) (r : Greatest) → sight_is.Mapped f ≡ sight_found lo r → ⊥
+not_found lo f r e = by r.place e
   where
-    go : (x : Bool) → sight_is.Mapped f ≡ sight_in x a c → ⊥
-    go true e = let z : ◌≡◌ {A = ℕ} 0 1 = cc in omega arith
-    go false e = let z : ◌≡◌ {A = ℕ} 0 1 = cc in omega arith
-not_found lo f (found_is.Missing c) e = let z : ◌≡◌ {A = ℕ} 0 1 = cc in omega arith
-not_found lo f (found_is.Refused k c) e = let z : ◌≡◌ {A = ℕ} 0 1 = cc in omega arith
+    go : (x : Bool) (a : ℕ) → sight_is.Mapped f ≡ sight_in x a r.words → ⊥
+    go true a e = let z : ◌≡◌ {A = ℕ} 0 1 = cc in omega arith
+    go false a e = let z : ◌≡◌ {A = ℕ} 0 1 = cc in omega arith
+
+    by : (o : Option ℕ) → sight_is.Mapped f ≡ sight_by lo o r.words → ⊥
+    by (Some a) e = go (leb lo a) a e
+    by None e = let z : ◌≡◌ {A = ℕ} 0 1 = cc in omega arith
 
 -- a page that is seen with a frame passed the test of a resident one, and the frame is the page table's
 pub record SeenFrame (x : Bool) (f p : ℕ) (table : List ℕ) (g : ℕ) : Type 0 where

@@ -20,7 +20,7 @@ use Rattle.lookup.specs.declared.Sight.TheVariants as sight_is
 use Rattle.promise.specs.Holds.{Holds, Placed}
 use Rattle.promise.specs.Shown.{resident_ok}
 use Rattle.lookup.specs.Models.{sight_in, sight_found, SeenIf, Seen, SeenAt}
-use Rattle.laws.specs.Finds.{sought_is, start_is}
+use Rattle.laws.specs.Finds.{found_is, start_is}
 use Rattle.laws.specs.Room.{owned_below}
 
 -- ---- the test of a resident page
@@ -138,7 +138,7 @@ module _ (m : State) (k : Memory) (h : Holds m k) (i b : ℕ) (in_space : i < m.
 
   -- what the find shows of a page that isn't resident
   search_honest : resident_ok k.count k.helper k.stack k.cache (places m.sizes) p ≡ false → (o : Option ℕ) → last_below (is_start m) (suc p) ≡ o
-      → SightIs m p (sight_found (place_of m.sizes i 0) (index.found_at o (words_at m p)))
+      → SightIs m p (sight_found (place_of m.sizes i 0) (index.greatest_at o (words_at m p)))
   search_honest fails none e = (ap (page_at m.held p) (start_is m i b in_pages ∙ ap (not_below _) e), refl)
   search_honest fails (some a) e = go (leb (place_of m.sizes i 0) a) refl
     where
@@ -156,7 +156,7 @@ module _ (m : State) (k : Memory) (h : Holds m k) (i b : ℕ) (in_space : i < m.
       let small = frame_below m h.sound (at k.cache p) p f (frame_in_lem p f _ g.frame_is) in
       rw (seen, lt-ltb f m.sizes.frames small) (at k.cache p, mapped_is m p (at k.cache p) f g)
   seen_if false e r seen =
-      rw (seen.seen, sought_is m k h p low seen.found seen.sought) (search_honest e (last_below (is_start m) (suc p)) refl)
+      rw (seen.seen, found_is m k h p low seen.found seen.sought) (search_honest e (last_below (is_start m) (suc p)) refl)
 
   pub seen_honest : (r : Sight) → SeenAt k i b r → SightIs m (place_of m.sizes i b) r
   unfolding Seen

@@ -1,9 +1,6 @@
 -- What is seen of the page at a place, and what look makes of it, on lists.
-use Rattle.std.specs.Prelude.{◌≡◌, Bool, true, false, List, ℕ, leb, ltb}
-use Rattle.index.specs.declared.Change.TheVariants as change_is
-use Rattle.index.specs.declared.Membership.TheVariants as membership_is
-use Rattle.index.specs.declared.Found.{Found}
-use Rattle.index.specs.declared.Found.TheVariants as found_is
+use Rattle.std.specs.Prelude.{◌≡◌, Bool, true, false, List, ℕ, leb, ltb, Option, Some, None, Ok}
+use Rattle.layer.specs.declared.Greatest.{Greatest}
 use Rattle.index.specs.Promise.{Sought}
 use Rattle.machine.specs.Machine.{places, place_of, Answer, resident, absent, refused_after, looked, refusal_of}
 use Rattle.memory.specs.Memory.{Memory, at, sizes_of}
@@ -23,15 +20,17 @@ sight_in true a c = sight_is.Unmapped a c
 sight_in false a c = sight_is.Outside c
 
 -- from what the find at p answers; lo is the first place of p's space
-abbrev pub sight_found : ℕ → Found → sight.Sight
-sight_found lo (found_is.Start a c) = sight_in (leb lo a) a c
-sight_found lo (found_is.Missing c) = sight_is.Outside c
-sight_found lo (found_is.Refused k c) = sight_is.Broken
+abbrev pub sight_by : ℕ → Option ℕ → ℕ → sight.Sight
+sight_by lo (Some a) c = sight_in (leb lo a) a c
+sight_by lo None c = sight_is.Outside c
+
+abbrev pub sight_found : ℕ → Greatest → sight.Sight
+sight_found lo g = sight_by lo g.place g.words
 
 -- a find's answer, and what is seen by it
 pub record Searched (t lo p : ℕ) (ws : List ℕ) (r : sight.Sight) : Type 0 where
-  pub found : Found
-  pub sought : Sought t p ws found
+  pub found : Greatest
+  pub sought : Sought t p ws (Ok found)
   pub seen : r ≡ sight_found lo found
 
 abbrev pub SeenIf : Bool → ℕ → ℕ → ℕ → ℕ → List ℕ → List ℕ → sight.Sight → Type 0

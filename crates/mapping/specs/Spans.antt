@@ -1,4 +1,6 @@
 -- The pages of a span mapped, and new frames cleared where the span's bytes don't cover them.
+use Rattle.std.specs.Prelude.{Result, Ok, Err}
+use Rattle.machine.specs.declared.RefusedAfter.{RefusedAfter}
 use Rattle.std.specs.Prelude.{◌≡◌, refl, ◌≢◌, cond, List, ℕ, ◌+◌, ◌-◌, ◌*◌, ◌/◌, ◌%◌, ◌≤◌, ◌<◌, ltb, length, get_or, set}
 use Rattle.std.proofs.Common.{sym, ap, ◌∙◌, inl, inr, mod-lt, add_assoc, div-add-mod', arith, lt-ltb, get_or-set_same, get_or-set_other}
 use Rattle.std.proofs.Math.Option.{none, some}
@@ -19,10 +21,10 @@ use Rattle.mapping.specs.Touches.{all_sizes, touched_lengths}
 use Rattle.clearing.specs.Around.{around_long, around_zero, around_else}
 
 -- the RAM after an answer, of a new page's frame the bytes cleared that lie around n bytes from address x on
-abbrev pub around_for : Head → Touched → ℕ → ℕ → List ℕ → List ℕ
-around_for h (touched_is.Old f) x n ram = ram
-around_for h (touched_is.New f w) x n ram = zeroed_around (sizes_of h) f x n ram
-around_for h (touched_is.Refused k w) x n ram = ram
+abbrev pub around_for : Head → Result Touched RefusedAfter → ℕ → ℕ → List ℕ → List ℕ
+around_for h (Ok (touched_is.Old f)) x n ram = ram
+around_for h (Ok (touched_is.New f w)) x n ram = zeroed_around (sizes_of h) f x n ram
+around_for h (Err e) x n ram = ram
 
 -- r differs from the RAM only where the first n bytes from address x on are to be stored, by the page table
 pub record AlikeBut (h : Head) (i x n : ℕ) (table ram r : List ℕ) : Type 0 where
@@ -47,7 +49,7 @@ module _ {i x n : ℕ} {k k₁ : Memory} (t : SpanTouched i x n k k₁) where
   span_ram = t.alike.long ∙ ap (λ (l : Lent). l.ram) span_lengths
 
 -- the same of a span of one page, with what its touch answered
-pub record OneTouched (i x n : ℕ) (k : Memory) (a : Touched) (k' : Memory) : Type 0 where
+pub record OneTouched (i x n : ℕ) (k : Memory) (a : Result Touched RefusedAfter) (k' : Memory) : Type 0 where
   pub did : Did (touch i (x / (sizes_of k.head).page)) k (touched_says a) (with_bytes k' (cleared_for k.head a k.ram))
   pub ram_is : k'.ram ≡ around_for k.head a x n k.ram
   pub span : SpanTouched i x n k k'
@@ -117,12 +119,12 @@ module _ (h : Head) (i x done s b : ℕ) (pos : 0 < (sizes_of h).page) (page_is 
 -- whatever the answer
 pub alike_more : (h h' : Head) → sizes_of h' ≡ sizes_of h → (i x done s b : ℕ) → 0 < (sizes_of h).page → b ≡ (x + done) / (sizes_of h).page
     → (x + done) % (sizes_of h).page + s ≤ (sizes_of h).page → ((j : ℕ) → j < done → (x + j) / (sizes_of h).page < (x + done) / (sizes_of h).page)
-    → (table zeros r : List ℕ) → place_of (sizes_of h) i b < length table → (a : Touched) → ((f w : ℕ) → a ≡ touched_is.New f w → f < h.frames)
+    → (table zeros r : List ℕ) → place_of (sizes_of h) i b < length table → (a : Result Touched RefusedAfter) → ((f w : ℕ) → a ≡ Ok (touched_is.New f w) → f < h.frames)
     → AlikeBut h i x done table zeros r → AlikeBut h i x (done + s) (tabled_for h' i b a table) (cleared_for h' a zeros) (around_for h a (x + done) s r)
-alike_more h h' e i x done s b pos page_is fits before table zeros r inside (touched_is.Old f) below so_far =
+alike_more h h' e i x done s b pos page_is fits before table zeros r inside (Ok (touched_is.Old f)) below so_far =
     old_more h i x done s b pos page_is fits before table zeros r so_far
-alike_more h h' e i x done s b pos page_is fits before table zeros r inside (touched_is.New f w) below so_far =
+alike_more h h' e i x done s b pos page_is fits before table zeros r inside (Ok (touched_is.New f w)) below so_far =
     rw (ap (λ (z : Sizes). place_of z i b) e, e)
     (new_more h i x done s b pos page_is fits before table zeros r f (below f w refl) inside so_far)
-alike_more h h' e i x done s b pos page_is fits before table zeros r inside (touched_is.Refused n w) below so_far =
+alike_more h h' e i x done s b pos page_is fits before table zeros r inside (Err y) below so_far =
     old_more h i x done s b pos page_is fits before table zeros r so_far

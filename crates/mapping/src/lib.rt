@@ -11,20 +11,21 @@ ghost use Rattle.paging.specs.Fits.{Touchable};
 ghost use Rattle.mapping.specs.Spans.{around_for, SpanTouched, OneTouched};
 
 use clearing::clear_around;
-use machine::Touched;
-use memory::{Head, TouchOut};
+use machine::{RefusedAfter, Touched};
+use memory::{Head, Out};
 use paging::touch_checked;
 use spans::{page_of, part};
 
 // Clears the frame of a page that was mapped, but for the n bytes from address x on.
-fn clear_new(head: Head, answer: Touched, x: usize, n: usize, ram: &mut [u8])
-    requires { ((f w : ℕ) → answer ≡ New f w → Frame head f ram.old) × (x % (sizes_of head).page + n ≤ (sizes_of head).page) }
+fn clear_new(head: Head, answer: Result<Touched, RefusedAfter>, x: usize, n: usize, ram: &mut [u8])
+    requires { ((f w : ℕ) → answer ≡ Ok (New f w) → Frame head f ram.old) × (x % (sizes_of head).page + n ≤ (sizes_of head).page) }
     ensures { ram.new ≡ around_for head answer x n ram.old }
 {
-    match answer {
-        Touched::New(frame, _) => clear_around(head, frame, x, n, ram),
-        Touched::Old(_) => {}
-        Touched::Refused(_, _) => {}
+    let Ok(touched) = answer else {
+        return;
+    };
+    if let Touched::New(frame, _) = touched {
+        clear_around(head, frame, x, n, ram);
     }
 }
 
@@ -42,7 +43,7 @@ pub fn touch_one(
     cache: &mut [u32],
     link: &mut [u32],
     ram: &mut [u8],
-) -> TouchOut
+) -> Out<Result<Touched, RefusedAfter>>
     requires { Span head space address n ram.old
         × ((b : ℕ) → b < head.pages → Touchable head space b index.now count.old table.old helper.old stack.old cache.old link.old)
         × (span_pages (sizes_of head) address n ≡ 1) }
@@ -96,6 +97,7 @@ pub fn touch_all(
 {
     let mut after = head;
     let mut done = 0;
+    // By hand, since no range or chunk of the library steps by parts that differ in size.
     while done < n {
         let x = address + done;
         let size = part(head, x, n - done);

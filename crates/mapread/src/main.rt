@@ -3,13 +3,13 @@
 // With a space as its argument it reads the contents alone, of a map of any size, and writes `pages` and how many the space has, or `no` and the number.
 #![tactic(auto)]
 
-ghost use Rattle.std.specs.Prelude.{◌+◌, ◌≤◌, ◌<◌, length};
+ghost use Rattle.std.specs.Prelude.{◌≤◌, length};
 
-use digits::put_hex;
-use fields::{BLANK, Field, number_after_blank};
-use machine::{Done, Fullness, MapWritten};
+use digits::Text;
+use fields::{BLANK, number_after_blank};
 use memory::{Head, no_start};
 use pager::{how_full, read_map, write_map};
+use refusals::Refusal;
 use std::env::{Env, FillError};
 
 const PLACES: usize = 4_096;
@@ -32,56 +32,32 @@ const PART: usize = 2_048;
 // Garbage: numbers that could be places or frames.
 fn litter(table: &mut [u32], step: u32) {
     let mut value = step;
-    for i in 0..table.len() {
+    for place in table {
         value = (value % 4_096 * 37 + step % 1_024) % 4_096;
-        table[i] = value;
+        *place = value;
     }
-}
-
-// Where the next part of a file ends: after PART bytes, or with the file.
-fn part_end(from: usize, all: usize) -> usize
-    requires { from < all }
-    ensures { (from < result) × (result ≤ all) × (result ≤ from + 2048) }
-{
-    if all - from < PART {
-        return all;
-    }
-    from + PART
-}
-
-fn print_front(text: &[u8], n: usize)
-    requires { n ≤ length text.now }
-{
-    io::write_all(1, &text[..n]);
 }
 
 // The first n bytes of a file in hex, part by part.
 fn print_file(file: &[u8], n: usize)
     requires { n ≤ length file.now }
 {
-    let mut text = [0u8; TEXT];
-    let mut from = 0;
-    while from < n {
-        let to = part_end(from, n);
-        put_hex(&mut text, 0, &file[from..to]);
-        print_front(&text, 2 * (to - from));
-        from = to;
+    let mut room = [0u8; TEXT];
+    for part in file[..n].chunks(PART) {
+        let mut text = Text {
+            out: &mut room,
+            at: 0,
+        };
+        text.put_hex(part);
+        let end = text.at;
+        io::write_all(1, &room[..end]);
     }
 }
 
-fn print_refused(number: u32) {
+fn print_refused(no: Refusal) {
     io::write_all(1, b"no ");
-    io::print_decimal(1, number as u64);
+    io::print_decimal(1, u64::from(no.number()));
     io::write_all(1, b"\n");
-}
-
-fn least(a: usize, b: usize) -> usize
-    ensures { result ≤ b }
-{
-    if a < b {
-        return a;
-    }
-    b
 }
 
 // The map of what was read, in a buffer of its own.
@@ -95,9 +71,9 @@ fn print_again(
 ) {
     let mut file = [0xa5u8; FILE];
     match write_map(head, index, count, table, stack, link, &mut file) {
-        MapWritten::Refused(number) => print_refused(number),
-        MapWritten::Bytes(n) => {
-            let all = least(n as usize, FILE);
+        Err(no) => print_refused(no),
+        Ok(n) => {
+            let all = (n as usize).min(FILE);
             io::write_all(1, b"ok ");
             print_file(&file, all);
             io::write_all(1, b"\n");
@@ -133,11 +109,9 @@ fn tell_file() {
         &mut cache,
         &mut link,
     );
-    let head = out.head;
-    let answer = out.answer;
-    match answer {
-        Done::Refused(number) => print_refused(number),
-        Done::Ok => print_again(head, &index, &count, &table, &stack, &link),
+    match out.answer {
+        Err(no) => print_refused(no),
+        Ok(()) => print_again(out.head, &index, &count, &table, &stack, &link),
     }
 }
 
@@ -145,10 +119,10 @@ fn print_fullness(space: u32) {
     let mut contents = [0u8; CONTENTS];
     let n = io::read_full(0, &mut contents);
     match how_full(space, &contents[..n]) {
-        Fullness::Refused(number) => print_refused(number),
-        Fullness::Pages(pages) => {
+        Err(no) => print_refused(no),
+        Ok(pages) => {
             io::write_all(1, b"pages ");
-            io::print_decimal(1, pages as u64);
+            io::print_decimal(1, u64::from(pages));
             io::write_all(1, b"\n");
         }
     }
@@ -164,14 +138,8 @@ fn print_usage() {
 // How full the space is whose number follows a blank in a text, and nothing else.
 fn tell_space(text: &[u8]) {
     match number_after_blank(text, 0) {
-        Field::Nothing => print_usage(),
-        Field::Number(space, end) => {
-            if end == text.len() {
-                print_fullness(space);
-            } else {
-                print_usage();
-            }
-        }
+        Some((space, end)) if end == text.len() => print_fullness(space),
+        _ => print_usage(),
     }
 }
 
@@ -179,10 +147,7 @@ fn tell_space(text: &[u8]) {
 fn read_argument(rt: &impl Env, room: &mut [u8]) -> usize
     ensures { result ≤ length room.new }
 {
-    match rt.arg(1, room) {
-        Ok(n) => n,
-        Err(_) => 0,
-    }
+    rt.arg(1, room).unwrap_or(0)
 }
 
 // The argument is a number as a session's are, of one to nine digits.

@@ -1,5 +1,5 @@
 -- Mark and drop keep the promise.
-use Rattle.std.specs.Prelude.{◌≡◌, refl, Bool, true, false, cond, List, [], ◌∷◌, ◌++◌, ℕ, zero, suc, ◌+◌, ◌<◌, leb, length, drop as dropped}
+use Rattle.std.specs.Prelude.{◌≡◌, refl, Bool, true, false, cond, List, [], ◌∷◌, ◌++◌, ℕ, zero, suc, ◌+◌, ◌<◌, leb, length, drop as dropped, Result, Ok}
 use Rattle.std.proofs.Common.{sym, ◌∙◌, subst, inl, inr, arith, get_or-set_same, get_or-set_other}
 use Rattle.std.proofs.Math.Path.{ap}
 use Rattle.std.proofs.lemmas.Bool.{false≢true}
@@ -10,14 +10,13 @@ use Rattle.places.specs.Laws.{below_last}
 use Rattle.places.specs.Sets.{put_here, put_other}
 use Rattle.layer.specs.Words.{bit_at}
 use Rattle.layer.specs.declared.Greatest.{Greatest}
-use Rattle.index.specs.Answers.{answer_of, greatest_at}
-use Rattle.index.specs.declared.Change.{Change}
-use Rattle.index.specs.declared.Change.TheVariants as change_is
+use Rattle.index.specs.Answers.{greatest_at}
+use Rattle.refusals.specs.declared.Refusal.{Refusal}
 use Rattle.index.specs.Promise.{Put, Sought}
-use Rattle.index.specs.Laws.{index_front, index_bit, index_ext, greatest_is}
+use Rattle.index.specs.Laws.{index_front, index_bit, index_ext}
 use Rattle.machine.specs.Machine.{Sizes, places, place_of, State, Pair, is_start, region, start_of, not_below, words_at, Lent}
 use Rattle.machine.specs.Machine.{Uses, uses, Call, mark, drop, facts, asked, Answer, done, refused, tell, with_start, unless_resident, mark_cut}
-use Rattle.machine.specs.Machine.{mark_at, drop_at, accepted, step, answer, after, ended}
+use Rattle.machine.specs.Machine.{mark_at, drop_at, accepted, step, ended}
 use Rattle.machine.specs.declared.PageCall.TheVariants.{Mark, Drop}
 use Rattle.machine.specs.Claims.{Sound}
 use Rattle.machine.proofs.Laws.Sizes.{fit}
@@ -29,7 +28,7 @@ use Rattle.promise.specs.Did.{Later, Marks, Bounds, Did}
 use Rattle.laws.specs.Models.{Refuses, mark_lengths}
 use Rattle.marking.specs.Models.{cut_count, count_in, with_index, Puts, PutsUnless, MarkIf, DropIf, MarkDone, DropDone}
 use Rattle.laws.specs.Refusals.{words_none, MayKeep, tells_none, gives_none, begins_none, passed_step, kept_did, checked_did, Admitted, admitted}
-use Rattle.laws.specs.Finds.{index_passes, sought_is, start_is}
+use Rattle.laws.specs.Finds.{index_passes, found_is, start_is}
 use Rattle.laws.specs.Checks.{page_check}
 
 -- ---- a start put in the index
@@ -68,7 +67,7 @@ module _ (m : State) (k : Memory) (h : Holds m k) (p : ℕ) (low : p < places m.
   ]
 
   -- the tables stay, and stand for the machine with that start
-  pub put_holds : (v : Bool) (change : Change) (words : List ℕ) → Put v (places m.sizes) p k.index change words → Spares m v p
+  pub put_holds : (v : Bool) (change : Result (Unit {0}) Refusal) (words : List ℕ) → Put v (places m.sizes) p k.index change words → Spares m v p
       → Holds (with_start m p v) (with_index k words)
   put_holds v change words w s =
       record {
@@ -120,11 +119,11 @@ module _ (m : State) (k : Memory) (h : Holds m k) (i b : ℕ) (low : place_of m.
       go true = h.counts a (omega (arith, (below_last (is_start m) (suc p) a e).low))
       go false = refl
 
-  cut_is : (found : Greatest) → Sought (places m.sizes) p k.index (answer_of found)
+  cut_is : (found : Greatest) → Sought (places m.sizes) p k.index (Ok found)
       → cut_count (place_of m.sizes i 0) k.count found ≡ length (way_of m (start_of m p))
   cut_is found w =
       let o = last_below (is_start m) (suc p) in
-      rw (greatest_is found o (words_at m p) (sought_is m k h p low (answer_of found) w), start_is m i b in_pages) (cut_found o refl)
+      rw (found_is m k h p low found w, start_is m i b in_pages) (cut_found o refl)
 
 -- what the machine does where a region of n resident pages is in the way
 record Cut (m : State) (c : Call) (v : Bool) (p n : ℕ) : Type 0 where
@@ -150,7 +149,7 @@ module _ (m : State) (c : Call) (v : Bool) (p : ℕ) where
 
 -- ---- mark and drop at page b of space i
 
-put_marks : (k : Memory) (v : Bool) (p : ℕ) (change : Change) (words : List ℕ) → Put v (places (sizes_of k.head)) p k.index change words
+put_marks : (k : Memory) (v : Bool) (p : ℕ) (change : Result (Unit {0}) Refusal) (words : List ℕ) → Put v (places (sizes_of k.head)) p k.index change words
     → Marks k (with_index k words)
 put_marks k v p change words w =
     record {
@@ -218,12 +217,12 @@ module _ (i b : ℕ) (k : Memory) where
           (record {
             asks = rw pass kind;
             stays = λ e. absurd (false≢true e);
-            bounds = bounds (with_index k d.words) (put_marks k v here change_is.Done d.words d.put);
+            bounds = bounds (with_index k d.words) (put_marks k v here (Ok tt) d.words d.put);
             tells = λ f w is. tells_none (facts (c (lengths k))).change keeps.0 f k _;
             gives = λ is. gives_none (facts (c (lengths k))).change keeps.0 k _;
             honest = λ m h.
                 let (o, spares) = cut_clear m (c (lengths k)) v (place_of m.sizes i b) (cut m h) in
-                let put_is = as_machine m h (λ z. Put v (places z) (place_of z i b) k.index change_is.Done d.words) d.put in
+                let put_is = as_machine m h (λ z. Put v (places z) (place_of z i b) k.index (Ok tt) d.words) d.put in
                 record {
                   answer_is = sym (ap (λ r. r.answer) o);
                   holds = subst (λ r. Holds r.after (with_index k d.words)) (sym o) (put_holds m k h _ (low m h) v _ d.words put_is spares);
@@ -260,7 +259,7 @@ module _ (i b : ℕ) (k : Memory) where
                 many =
                     as_head m h (λ z. cut_count (place_of z i 0) k.count d.found ≡ length (way_of m (start_of m p)))
                     (cut_is m k h i b (low (mark i b) pass _ w m h) (as_machine m h (λ z. b < z.pages) w.page) d.found
-                    (as_machine m h (λ z. Sought (places z) (place_of z i b) k.index (answer_of d.found)) d.sought));
+                    (as_machine m h (λ z. Sought (places z) (place_of z i b) k.index (Ok d.found)) d.sought));
                 does = marks false is m h ∙ mark_way m p (start_of m p);
                 spares = λ e. mark_spares m p h.sound (low (mark i b) pass _ w m h) (λ a o. ap (way_of m) (sym o) ∙ e);
               })

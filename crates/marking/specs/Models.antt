@@ -1,10 +1,7 @@
 -- What mark and drop do, on lists.
-use Rattle.std.specs.Prelude.{◌≡◌, Bool, true, false, List, ℕ, zero, suc, leb}
+use Rattle.std.specs.Prelude.{◌≡◌, Bool, true, false, List, ℕ, zero, suc, leb, Option, Some, None, Ok}
 use Rattle.layer.specs.Words.{bit_at}
 use Rattle.layer.specs.declared.Greatest.{Greatest}
-use Rattle.layer.specs.declared.Greatest.TheVariants.{Place, Nothing}
-use Rattle.index.specs.declared.Change.TheVariants as change_is
-use Rattle.index.specs.Answers.{answer_of}
 use Rattle.index.specs.Promise.{Put, Sought}
 use Rattle.machine.specs.Machine.{places, place_of, Answer, done, refused}
 use Rattle.memory.specs.Memory.{Memory, memory, at, sizes_of}
@@ -15,9 +12,12 @@ abbrev pub count_in : Bool → List ℕ → ℕ → ℕ
 count_in true count a = at count a
 count_in false count a = 0
 
+abbrev pub count_at : ℕ → List ℕ → Option ℕ → ℕ
+count_at lo count (Some a) = count_in (leb lo a) count a
+count_at lo count None = 0
+
 abbrev pub cut_count : ℕ → List ℕ → Greatest → ℕ
-cut_count lo count (Place a c) = count_in (leb lo a) count a
-cut_count lo count (Nothing c) = 0
+cut_count lo count g = count_at lo count g.place
 
 abbrev pub with_index : Memory → List ℕ → Memory
 with_index k ws = memory k.head ws k.count k.table k.helper k.stack k.cache k.link k.ram
@@ -25,7 +25,7 @@ with_index k ws = memory k.head ws k.count k.table k.helper k.stack k.cache k.li
 -- the start put or taken away
 pub record Puts (v : Bool) (p : ℕ) (k : Memory) (a : Answer) (k' : Memory) : Type 0 where
   pub words : List ℕ
-  pub put : Put v (places (sizes_of k.head)) p k.index change_is.Done words
+  pub put : Put v (places (sizes_of k.head)) p k.index (Ok tt) words
   pub answer_is : a ≡ done
   pub after_is : k' ≡ with_index k words
 
@@ -36,7 +36,7 @@ PutsUnless (suc n) v p k a k' = Refuses (refused 7) k a k'
 
 pub record Cuts (p lo : ℕ) (k : Memory) (a : Answer) (k' : Memory) : Type 0 where
   pub found : Greatest
-  pub sought : Sought (places (sizes_of k.head)) p k.index (answer_of found)
+  pub sought : Sought (places (sizes_of k.head)) p k.index (Ok found)
   pub done_then : PutsUnless (cut_count lo k.count found) true p k a k'
 
 -- by whether the place's bit is set

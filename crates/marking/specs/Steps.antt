@@ -1,9 +1,8 @@
 -- What the steps of mark and drop promise each other, in the terms of the calls' models.
-use Rattle.std.specs.Prelude.{◌≡◌, List, ℕ, ◌≤◌, ◌<◌, length}
+use Rattle.std.specs.Prelude.{◌≡◌, List, ℕ, ◌≤◌, ◌<◌, length, Ok}
 use Rattle.extent.specs.Checks as extent
 use Rattle.layer.specs.Words.{bit_at}
 use Rattle.layer.specs.declared.Greatest.{Greatest}
-use Rattle.index.specs.Answers.{answer_of}
 use Rattle.index.specs.Promise.{Sought}
 use Rattle.machine.specs.Machine.{places, Answer}
 use Rattle.memory.specs.Memory.{Memory, memory, sizes_of}
@@ -20,7 +19,7 @@ pub record Searchable (t p : ℕ) (ws count : List ℕ) : Type 0 where
 -- the count of the region that a start at p would cut
 pub record CutPages (t lo p : ℕ) (ws count : List ℕ) (r : ℕ) : Type 0 where
   pub found : Greatest
-  pub sought : Sought t p ws (answer_of found)
+  pub sought : Sought t p ws (Ok found)
   pub is : r ≡ cut_count lo count found
 
 -- whatever head of t places and whatever tables stand around the index and the counts

@@ -7,16 +7,9 @@ ghost use Rattle.requests.specs.declared.Request.TheVariants.{Page};
 ghost use Rattle.pages.specs.Serves.{Serves};
 
 use machine::PageCall;
-use memory::Head;
+use memory::{Head, Out};
 use pager::{drop, give_back, look, mark, release, touch};
 use requests::Reply;
-
-// A reply, and the head after it.
-#[derive(Clone, Copy)]
-pub struct Served {
-    pub head: Head,
-    pub reply: Reply,
-}
 
 // Makes the call on a page.
 pub fn serve_page(
@@ -32,13 +25,13 @@ pub fn serve_page(
     cache: &mut [u32],
     link: &mut [u32],
     ram: &mut [u8],
-) -> Served
+) -> Out<Reply>
     ensures { (buffer records : List ℕ) →
         Serves (Page call space page)
         (memory head index.old count.old table.old helper.old stack.old cache.old
         link.old ram.old)
         buffer records
-        result.reply
+        result.answer
         (memory result.head index.new count.new table.new helper.new stack.new cache.new
         link.new ram.new)
         buffer records }
@@ -46,16 +39,16 @@ pub fn serve_page(
     match call {
         PageCall::Mark => {
             let a = mark(head, space, page, index, count);
-            Served {
+            Out {
                 head,
-                reply: requests::of_done(a),
+                answer: requests::of_done(a),
             }
         }
         PageCall::Drop => {
             let a = drop(head, space, page, index, count);
-            Served {
+            Out {
                 head,
-                reply: requests::of_done(a),
+                answer: requests::of_done(a),
             }
         }
         PageCall::Touch => {
@@ -64,25 +57,25 @@ pub fn serve_page(
             );
             let head = out.head;
             let a = out.answer;
-            Served {
+            Out {
                 head,
-                reply: requests::of_touched(a),
+                answer: requests::of_touched(a),
             }
         }
         PageCall::Look => {
             let a = look(head, space, page, index, count, table, helper, stack, cache);
-            Served {
+            Out {
                 head,
-                reply: requests::of_looked(a),
+                answer: requests::of_looked(a),
             }
         }
         PageCall::Release => {
             let out = release(head, space, page, index, count, table, stack, link);
             let head = out.head;
             let a = out.answer;
-            Served {
+            Out {
                 head,
-                reply: requests::of_released(a),
+                answer: requests::of_released(a),
             }
         }
         PageCall::GiveBack => {
@@ -91,9 +84,9 @@ pub fn serve_page(
             );
             let head = out.head;
             let a = out.answer;
-            Served {
+            Out {
                 head,
-                reply: requests::of_given_back(a),
+                answer: requests::of_given_back(a),
             }
         }
     }

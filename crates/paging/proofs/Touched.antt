@@ -1,14 +1,15 @@
 -- What a touch did: the plan is carried out as the machine does it.
+use Rattle.std.specs.Prelude.{Result}
+use Rattle.machine.specs.declared.RefusedAfter.{RefusedAfter}
 use Rattle.std.specs.Prelude.{◌≡◌, refl, ℕ, ◌<◌, length}
 use Rattle.std.proofs.Common.{sym, ap, ◌∙◌, subst, arith}
 use Rattle.machine.specs.declared.PageCall.TheVariants.{Touch}
 use Rattle.machine.specs.Machine.{Sizes, places, place_of, State, words_at, Page, touch, asked, Answer, refused_after}
-use Rattle.machine.specs.Machine.{Out, page_facts, touch_page, touch_at, accepted, answer, after}
+use Rattle.machine.specs.Machine.{Out, page_facts, touch_page, touch_at, accepted}
 use Rattle.memory.specs.Memory.{Memory, sizes_of, lengths}
 use Rattle.lookup.specs.declared.Sight.{Sight}
 use Rattle.lookup.specs.declared.Sight.TheVariants as sight_is
 use Rattle.planning.specs.declared.Plan.{Plan}
-use Rattle.planning.specs.declared.Plan.TheVariants as plan_is
 use Rattle.promise.specs.Holds.{Holds}
 use Rattle.promise.specs.Did.{Follows, Did}
 use Rattle.lookup.specs.Models.{SeenAt}
@@ -23,7 +24,7 @@ use Rattle.lookup.specs.Lookup.{SightIs, seen_honest}
 use Rattle.paging.proofs.Touching.{plan_later, plan_still, plan_bounds, plan_tells, new_like}
 
 module _ (m : State) (k : Memory) (h : Holds m k) (p : ℕ) (low : p < places m.sizes) (lent : Long (page_facts Touch).uses m.sizes (lengths k)) where
-  abbrev Like : Plan → Out → Type 0
+  abbrev Like : Result Plan RefusedAfter → Out → Type 0
   Like x o = (plan_says x k ≡ o.answer) × Holds o.after (plan_leaves x k p)
 
   touch_like : (s : Sight) → SightIs m p s → Like (plan_for k.head k.count k.stack (places m.sizes) s) (touch_at m p)

@@ -1,4 +1,7 @@
 -- From a plan to the whole touch: what carrying it out may take for granted, and that it keeps the promise.
+use Rattle.std.specs.Prelude.{Result, Ok, Err}
+use Rattle.machine.specs.declared.RefusedAfter.{RefusedAfter}
+use Rattle.refusals.specs.Refusals.{number}
 use Rattle.std.specs.Prelude.{◌≡◌, refl, List, ℕ, ◌*◌, ◌<◌, ltb, replicate}
 use Rattle.std.proofs.Common.{sym, ap, ◌∙◌, subst, arith, ltb-true}
 use Rattle.std.proofs.lemmas.Bool.{false≢true}
@@ -22,6 +25,7 @@ use Rattle.planning.specs.Fits.{Planned}
 use Rattle.planning.proofs.Planning.{new_inside, plan_maps, fit_top}
 use Rattle.paging.specs.Models.{plan_says, plan_leaves, Touches}
 use Rattle.lookup.specs.Models.{SeenAt}
+use Rattle.lookup.specs.Ready.{SeenOf}
 use Rattle.laws.specs.Checking as checking
 use Rattle.laws.specs.Passing.{page_passes}
 use Rattle.laws.specs.Checks.{page_check}
@@ -63,7 +67,7 @@ still_touchable k k' same long y =
 
 -- ---- the whole touch
 
-module _ (h : Head) (i b : ℕ) (index count table helper stack cache link : List ℕ) (y : Touchable h i b index count table helper stack cache link) (r : Plan)
+module _ (h : Head) (i b : ℕ) (index count table helper stack cache link : List ℕ) (y : Touchable h i b index count table helper stack cache link) (r : Result Plan RefusedAfter)
     (planned : Planned h i b index count table helper stack cache r) where
   passes : (ram : List ℕ) → RamLong h ram → asked (sizes_of h) (touch i b (lengths (memory h index count table helper stack cache link ram))) ≡ 0
   passes ram long =
@@ -71,7 +75,7 @@ module _ (h : Head) (i b : ℕ) (index count table helper stack cache link : Lis
       page_passes (sizes_of h) Touch i b _ g.sizes_ok_lem g.space g.page
       (ready_long h i b index count table helper stack cache g link ram _ (λ _. y.link_long) (λ _. long))
 
-  pub touch_mappable : (a c : ℕ) → r ≡ plan_is.New a c → (p : ℕ) → p ≡ place_of (sizes_of h) i b → Mappable h count table helper stack cache link a p
+  pub touch_mappable : (a c : ℕ) → r ≡ Ok (plan_is.New a c) → (p : ℕ) → p ≡ place_of (sizes_of h) i b → Mappable h count table helper stack cache link a p
   touch_mappable a c is p ep =
       let z = sizes_of h in
       let ram : List ℕ = replicate {A = ℕ} (z.frames * z.page) 0 in
@@ -95,29 +99,35 @@ module _ (h : Head) (i b : ℕ) (index count table helper stack cache link : Lis
         (checking.checked_yes (refusal_of machine.touched) _ 0 (Touches before i b) before k' a (sym (page_check before i b Touch (every_length before) refl ∙ passes ram long)) refl
         (record { sight = planned.sight; seen = planned.seen; answer_is = rw planned.is at says; after_is = rw planned.is at leaves }))
 
-    pub did_old : (f : ℕ) → r ≡ plan_is.Old f → Did (touch i b) before (old f) before
+    pub did_old : (f : ℕ) → r ≡ Ok (plan_is.Old f) → Did (touch i b) before (old f) before
     did_old f is = touched (old f) before (rw is (refl, refl))
 
-    pub did_refuse : (n c : ℕ) → r ≡ plan_is.Refused n c → Did (touch i b) before (refused_after n c) before
-    did_refuse n c is = touched (refused_after n c) before (rw is (refl, refl))
+    pub did_refuse : (e : RefusedAfter) → r ≡ Err e → Did (touch i b) before (refused_after (number e.refusal) e.words) before
+    did_refuse e is = touched (refused_after (number e.refusal) e.words) before (rw is (refl, refl))
 
-    pub did_new : (a c p : ℕ) (t : Taken) (count' table' helper' stack' cache' link' : List ℕ) → r ≡ plan_is.New a c → p ≡ place_of (sizes_of h) i b
+    pub did_new : (a c p : ℕ) (t : Taken) (count' table' helper' stack' cache' link' : List ℕ) → r ≡ Ok (plan_is.New a c) → p ≡ place_of (sizes_of h) i b
         → Mapped h count table helper stack cache link a p t count' table' helper' stack' cache' link'
         → Did (touch i b) before (new t.frame c)
         (memory t.head index count' table' helper' stack' cache' link' (zeroed (sizes_of h) t.frame ram))
     did_new a c p t count' table' helper' stack' cache' link' is place m =
         rw (m.count_is, m.table_is, m.helper_is, m.stack_is, m.cache_is, m.link_is, m.first, place) (touched _ _ (rw is (refl, refl)))
 
--- the short way: a resident page answers its frame
+-- the short way: a page that is seen with a frame is told it, and nothing changes
+pub did_seen : (h : Head) (i b : ℕ) (index count table helper stack cache link : List ℕ) → Touchable h i b index count table helper stack cache link
+    → (f : ℕ) → SeenOf h i b index count table helper stack cache (sight_is.Mapped f)
+    → (ram : List ℕ) → RamLong h ram → let k = memory h index count table helper stack cache link ram in Did (touch i b) k (old f) k
+did_seen h i b index count table helper stack cache link y f seen ram long =
+    did_old h i b index count table helper stack cache link y (Ok (plan_is.Old f)) (record { sight = sight_is.Mapped f; seen = seen; is = refl }) ram long f refl
+
+-- a resident page is seen with its frame
 pub did_resident : (h : Head) (i b : ℕ) (index count table helper stack cache link : List ℕ) → Touchable h i b index count table helper stack cache link
     → (f : ℕ)
     → f ≡ frame_of h i b count table helper stack cache → f < h.frames
     → (ram : List ℕ) → RamLong h ram → let k = memory h index count table helper stack cache link ram in Did (touch i b) k (old f) k
 did_resident h i b index count table helper stack cache link y f is below ram long =
-    did_old h i b index count table helper stack cache link y (plan_is.Old f)
-    (record { sight = sight_is.Mapped f; seen = frame_seen h i b index count table helper stack cache is below; is = refl }) ram long f refl
+    did_seen h i b index count table helper stack cache link y f (frame_seen h i b index count table helper stack cache is below) ram long
 
 -- the frame of a new page is one that there is
-pub new_below : (i b : ℕ) (k : Memory) (x : Touched) (k' : Memory) → Did (touch i b) k (touched_says x) k' → (f w : ℕ) → x ≡ touched_is.New f w
+pub new_below : (i b : ℕ) (k : Memory) (x : Result Touched RefusedAfter) (k' : Memory) → Did (touch i b) k (touched_says x) k' → (f w : ℕ) → x ≡ Ok (touched_is.New f w)
     → f < (sizes_of k.head).frames
-new_below i b k x k' d f w e = (own_answer (touch i b) k (new f w) k' (subst (λ (y : Touched). Did (touch i b) k (touched_says y) k') e d)).1
+new_below i b k x k' d f w e = (own_answer (touch i b) k (new f w) k' (subst (λ (y : Result Touched RefusedAfter). Did (touch i b) k (touched_says y) k') e d)).1

@@ -1,4 +1,7 @@
 -- What a touch does, on lists.
+use Rattle.std.specs.Prelude.{Result, Ok, Err}
+use Rattle.machine.specs.declared.RefusedAfter.{RefusedAfter}
+use Rattle.refusals.specs.Refusals.{number}
 use Rattle.std.specs.Prelude.{◌≡◌, List, ℕ, set}
 use Rattle.machine.specs.declared.Touched.{Touched}
 use Rattle.machine.specs.declared.Touched.TheVariants as touched_is
@@ -15,27 +18,27 @@ use Rattle.planning.specs.Models.{plan_of}
 use Rattle.laws.specs.Models.{check_of, Checked, page_inside, every_length}
 
 -- W-201: the RAM after an answer, the frame of a new page cleared
-abbrev pub cleared_for : Head → Touched → List ℕ → List ℕ
-cleared_for h (touched_is.Old f) ram = ram
-cleared_for h (touched_is.New f w) ram = zeroed (sizes_of h) f ram
-cleared_for h (touched_is.Refused n w) ram = ram
+abbrev pub cleared_for : Head → Result Touched RefusedAfter → List ℕ → List ℕ
+cleared_for h (Ok (touched_is.Old f)) ram = ram
+cleared_for h (Ok (touched_is.New f w)) ram = zeroed (sizes_of h) f ram
+cleared_for h (Err x) ram = ram
 
 -- the page table after an answer: the frame of a new page stands at the page's place
-abbrev pub tabled_for : Head → ℕ → ℕ → Touched → List ℕ → List ℕ
-tabled_for h i b (touched_is.Old f) table = table
-tabled_for h i b (touched_is.New f w) table = set table (place_of (sizes_of h) i b) f
-tabled_for h i b (touched_is.Refused n w) table = table
+abbrev pub tabled_for : Head → ℕ → ℕ → Result Touched RefusedAfter → List ℕ → List ℕ
+tabled_for h i b (Ok (touched_is.Old f)) table = table
+tabled_for h i b (Ok (touched_is.New f w)) table = set table (place_of (sizes_of h) i b) f
+tabled_for h i b (Err x) table = table
 
 -- the answer and the memory after a plan is carried out at place p
-abbrev pub plan_says : plan.Plan → Memory → Answer
-plan_says (plan_is.Old f) k = old f
-plan_says (plan_is.New a c) k = new (taken k.link k.head).frame c
-plan_says (plan_is.Refused n c) k = refused_after n c
+abbrev pub plan_says : Result plan.Plan RefusedAfter → Memory → Answer
+plan_says (Ok (plan_is.Old f)) k = old f
+plan_says (Ok (plan_is.New a c)) k = new (taken k.link k.head).frame c
+plan_says (Err e) k = refused_after (number e.refusal) e.words
 
-abbrev pub plan_leaves : plan.Plan → Memory → ℕ → Memory
-plan_leaves (plan_is.Old f) k p = k
-plan_leaves (plan_is.New a c) k p = map_page k a p
-plan_leaves (plan_is.Refused n c) k p = k
+abbrev pub plan_leaves : Result plan.Plan RefusedAfter → Memory → ℕ → Memory
+plan_leaves (Ok (plan_is.Old f)) k p = k
+plan_leaves (Ok (plan_is.New a c)) k p = map_page k a p
+plan_leaves (Err x) k p = k
 
 pub record Touches (k : Memory) (i b : ℕ) (a : Answer) (k' : Memory) : Type 0 where
   pub sight : sight.Sight

@@ -13,8 +13,8 @@ ghost use Rattle.paging.specs.Models.{cleared_for, tabled_for};
 use checks::{all_places, place};
 use entries::map_page;
 use lookup::{Sight, see};
-use machine::Touched;
-use memory::{Head, TouchOut};
+use machine::{RefusedAfter, Touched};
+use memory::{Head, Out};
 use planning::{Plan, plan_for};
 
 // The touch of a page that was looked up: the plan for it, carried out.
@@ -29,7 +29,7 @@ pub fn touch_seen(
     stack: &mut [u32],
     cache: &mut [u32],
     link: &mut [u32],
-) -> TouchOut
+) -> Out<Result<Touched, RefusedAfter>>
     requires { (index : List ℕ) ×
         Due head space page index count.old table.old helper.old stack.old cache.old link.old seen }
     ensures by_index { (index ram : List ℕ) →
@@ -44,26 +44,30 @@ pub fn touch_seen(
         link.new (cleared_for head result.answer ram)) }
     ensures table_after { table.new ≡ tabled_for head space page result.answer table.old }
 {
-    let todo = plan_for(head, seen, count, stack, all_places(head));
+    let todo = match plan_for(head, seen, count, stack, all_places(head)) {
+        Ok(todo) => todo,
+        Err(no) => {
+            return Out {
+                head,
+                answer: Err(no),
+            };
+        }
+    };
     match todo {
-        Plan::Old(f) => TouchOut {
+        Plan::Old(f) => Out {
             head,
-            answer: Touched::Old(f),
+            answer: Ok(Touched::Old(f)),
         },
         Plan::New(a, c) => {
             let p = place(head, space, page);
             let new = map_page(head, count, table, helper, stack, cache, link, a, p);
             let frame = new.frame;
             let next = new.head;
-            TouchOut {
+            Out {
                 head: next,
-                answer: Touched::New(frame, c),
+                answer: Ok(Touched::New(frame, c)),
             }
         }
-        Plan::Refused(n, c) => TouchOut {
-            head,
-            answer: Touched::Refused(n, c),
-        },
     }
 }
 
@@ -79,7 +83,7 @@ pub fn touch_checked(
     stack: &mut [u32],
     cache: &mut [u32],
     link: &mut [u32],
-) -> TouchOut
+) -> Out<Result<Touched, RefusedAfter>>
     requires { Touchable head space page index.now count.old table.old helper.old stack.old cache.old link.old }
     ensures by_index { (ram : List ℕ) →
         RamLong head ram →

@@ -1,62 +1,53 @@
 -- The grammar of a line: which call it is, or none. Definitions only; document 01's words stand beside them in quotation marks.
-use Rattle.std.specs.Prelude.{cond, List, [], ◌∷◌, ℕ, ◌+◌, ◌*◌, leb, length, drop}
+use Rattle.std.specs.Prelude.{cond, List, [], ◌∷◌, ℕ, ◌+◌, ◌*◌, leb, length, drop, Option, Some, None, option_and_then}
+use Rattle.std.specs.Option.{option_or}
 use Rattle.machine.specs.declared.PageCall.{PageCall}
 use Rattle.machine.specs.declared.PageCall.TheVariants.{Mark, Drop, Touch, Look, Release, GiveBack}
-use Rattle.fields.specs.Fields.{begins, FieldTaken, nothing, number, field_at}
-use Rattle.hexing.specs.declared.Bytes.{Bytes}
-use Rattle.hexing.specs.declared.Bytes.TheVariants.{Count, Wrong}
+use Rattle.fields.specs.Fields.{begins, field_at}
 use Rattle.hexing.specs.Hex.{hex_count}
 use Rattle.requests.specs.declared.Request.{Request}
 use Rattle.requests.specs.declared.Request.TheVariants.{Start, Page, Free, Translate, Read, Write, List as Listing, WriteMap}
-use Rattle.parsing.specs.declared.Named.{Named}
-use Rattle.parsing.specs.declared.Named.TheVariants as name_is
-use Rattle.parsing.specs.declared.Line.{Line}
-use Rattle.parsing.specs.declared.Line.TheVariants.{Call, Bad}
+
+-- what a line says: a call, with the count of the bytes that a read asks for, a write has or a map may take, else 0; a bad line says none
+abbrev pub Line : Type 0
+Line = Option (Request × ℕ)
 
 -- ---- what is read in order
 
-abbrev pub and_then : FieldTaken → (ℕ → List ℕ → Line) → Line
-and_then nothing k = Bad
-and_then (number v rest) k = k v rest
-
 -- a blank and a number, then more
 abbrev pub field : List ℕ → (ℕ → List ℕ → Line) → Line
-field cs k = and_then (field_at cs) k
+field cs k = option_and_then (λ t. k t.0 t.1) (field_at cs)
 
 -- the line's end
-abbrev pub ended : List ℕ → Line → Line
+abbrev pub ended : {A : Type 0} → List ℕ → Option A → Option A
 ended [] l = l
-ended (c ∷ cs) l = Bad
-
-abbrev pub and_count : Bytes → (ℕ → Line) → Line
-and_count (Count n) k = k n
-and_count Wrong k = Bad
+ended (c ∷ cs) l = None
 
 -- bytes in hex up to the line's end, or none
 abbrev pub bytes_of : List ℕ → (ℕ → Line) → Line
-bytes_of cs k = and_count (hex_count cs) k
+bytes_of cs k = option_and_then k (hex_count cs)
 
--- ---- each call, after its name; the line's count is of the bytes that a read asks for, a write has or a map may take
+-- ---- each call, after its name
 
 abbrev pub start_line : List ℕ → Line
-start_line cs = field cs (λ s cs. field cs (λ n cs. field cs (λ f cs. field cs (λ p cs. ended cs (Call (Start s n f p) 0)))))
+start_line cs = field cs (λ s cs. field cs (λ n cs. field cs (λ f cs. field cs (λ p cs. ended cs (Some (Start s n f p, 0))))))
 
 -- a space and a page or an address: the page calls and translate
 abbrev pub pair_line : (ℕ → ℕ → Request) → List ℕ → Line
-pair_line make cs = field cs (λ i cs. field cs (λ b cs. ended cs (Call (make i b) 0)))
+pair_line make cs = field cs (λ i cs. field cs (λ b cs. ended cs (Some (make i b, 0))))
 
 abbrev pub free_line : List ℕ → Line
-free_line cs = ended cs (Call Free 0)
+free_line cs = ended cs (Some (Free, 0))
 
 -- "count (at most 256)"
 abbrev pub read_line : List ℕ → Line
-read_line cs = field cs (λ i cs. field cs (λ x cs. field cs (λ n cs. ended cs (cond (leb n 256) (Call (Read i x) n) Bad))))
+read_line cs = field cs (λ i cs. field cs (λ x cs. field cs (λ n cs. cond (leb n 256) (ended cs (Some (Read i x, n))) None)))
 
 abbrev pub write_line : List ℕ → Line
-write_line cs = field cs (λ i cs. field cs (λ x cs. bytes_of cs (λ n. Call (Write i x) n)))
+write_line cs = field cs (λ i cs. field cs (λ x cs. bytes_of cs (λ n. Some (Write i x, n))))
 
 abbrev pub list_line : List ℕ → Line
-list_line cs = field cs (λ i cs. ended cs (Call (Listing i) 0))
+list_line cs = field cs (λ i cs. ended cs (Some (Listing i, 0)))
 
 -- the bytes of the longest map within a session's limits: contents of 64 spaces, then 1,024 regions without a page and 128 pages with a frame
 abbrev pub longest_map : ℕ
@@ -64,7 +55,7 @@ longest_map = 4 * ((3 * 64 + 7) + 3 * 1024 + 2 * 128)
 
 -- W-202: "Write the whole machine state but for the RAM to a lent buffer", one with room for every map
 abbrev pub map_line : List ℕ → Line
-map_line cs = ended cs (Call WriteMap longest_map)
+map_line cs = ended cs (Some (WriteMap, longest_map))
 
 -- ---- the calls' names
 
@@ -131,25 +122,24 @@ page_names =
     (give_word, GiveBack) ∷
     []
 
--- what a line was found to name, else this call if it begins with its name
-abbrev pub or_named : Named → List ℕ → List ℕ → PageCall → Named
-or_named (name_is.Page p n) cs word call = name_is.Page p n
-or_named name_is.Other cs word call = cond (begins word cs) (name_is.Page call (length word)) name_is.Other
+-- this call and where its name ends, if a line begins with the name
+abbrev pub named : List ℕ → List ℕ → PageCall → Option (PageCall × ℕ)
+named cs word call = cond (begins word cs) (Some (call, length word)) None
 
--- and so on through these
-abbrev pub first_named : Named → List (List ℕ × PageCall) → List ℕ → Named
-first_named found [] cs = found
-first_named found (n ∷ ns) cs = first_named (or_named found cs n.0 n.1) ns cs
+-- the first of the names that a line begins with
+abbrev pub first_named : List (List ℕ × PageCall) → List ℕ → Option (PageCall × ℕ)
+first_named [] cs = None
+first_named (n ∷ ns) cs = option_or (named cs n.0 n.1) (first_named ns cs)
 
-abbrev pub page_named : List ℕ → Named
-page_named cs = first_named name_is.Other page_names cs
+abbrev pub page_named : List ℕ → Option (PageCall × ℕ)
+page_named cs = first_named page_names cs
 
 -- ---- a line
 
 -- a page call after its name, or what the line is if it names none
-abbrev pub or_page : Named → List ℕ → Line → Line
-or_page (name_is.Page p n) cs other = pair_line (λ i b. Page p i b) (drop n cs)
-or_page name_is.Other cs other = other
+abbrev pub or_page : Option (PageCall × ℕ) → List ℕ → Line → Line
+or_page (Some (p, n)) cs other = pair_line (λ i b. Page p i b) (drop n cs)
+or_page None cs other = other
 
 -- no name begins another (`names_apart`); what begins with none is a bad line
 unfoldable pub parsed : List ℕ → Line
@@ -161,4 +151,4 @@ parsed cs =
     (cond (begins read_word cs) (read_line (drop 4 cs))
     (cond (begins write_word cs) (write_line (drop 5 cs))
     (cond (begins list_word cs) (list_line (drop 4 cs))
-    (cond (begins map_word cs) (map_line (drop 3 cs)) Bad)))))))
+    (cond (begins map_word cs) (map_line (drop 3 cs)) None)))))))

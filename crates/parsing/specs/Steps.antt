@@ -1,12 +1,8 @@
 -- What the steps of reading a line promise each other.
-use Rattle.std.specs.Prelude.{ℕ}
+use Rattle.std.specs.Prelude.{ℕ, Option, option_map}
 use Rattle.requests.specs.declared.Request.{Request}
-use Rattle.parsing.specs.declared.Line.{Line}
-use Rattle.parsing.specs.declared.Line.TheVariants.{Call, Bad}
-use Rattle.parsing.specs.declared.Pair.{Pair}
-use Rattle.parsing.specs.declared.Pair.TheVariants.{Numbers, Nothing}
+use Rattle.parsing.specs.Grammar.{Line}
 
 -- the line that ends in two numbers, or a bad one
-abbrev pub paired : (ℕ → ℕ → Request) → Pair → Line
-paired make (Numbers one two) = Call (make one two) 0
-paired make Nothing = Bad
+abbrev pub paired : (ℕ → ℕ → Request) → Option (ℕ × ℕ) → Line
+paired make r = option_map (λ t. (make t.0 t.1, 0)) r

@@ -1,9 +1,8 @@
 -- What a plan may be on any memory: it maps only a page that isn't shown, inside the tables, and refuses with a number of touch. From what is seen to the plan.
-use Rattle.std.specs.Prelude.{◌≡◌, refl, Bool, true, false, cond, ◌&&◌, List, [], ◌∷◌, ℕ, zero, suc, ◌+◌, ◌≤◌, ◌<◌, eqb, leb, ltb, length}
+use Rattle.std.specs.Prelude.{◌≡◌, refl, Bool, true, false, cond, ◌&&◌, List, [], ◌∷◌, ℕ, zero, suc, ◌+◌, ◌≤◌, ◌<◌, eqb, leb, ltb, length, Option, Some, None, IfSome, Result, Ok, Err}
 use Rattle.std.proofs.Common.{subst, inl, inr, arith, ltb-true, leb-false}
 use Rattle.extent.specs.Checks as extent
-use Rattle.index.specs.declared.Found.{Found}
-use Rattle.index.specs.declared.Found.TheVariants as found_is
+use Rattle.layer.specs.declared.Greatest.{Greatest}
 use Rattle.index.specs.Promise.{Bounded}
 use Rattle.places.specs.Places.{size}
 use Rattle.machine.specs.declared.PageCall.TheVariants.{Touch}
@@ -13,11 +12,13 @@ use Rattle.memory.specs.Memory.{Memory, memory, at, sizes_of, lengths}
 use Rattle.memory.specs.declared.Head.{Head}
 use Rattle.lookup.specs.declared.Sight.{Sight}
 use Rattle.lookup.specs.declared.Sight.TheVariants as sight_is
+use Rattle.refusals.specs.Refusals.{number}
+use Rattle.machine.specs.declared.RefusedAfter.{RefusedAfter}
 use Rattle.planning.specs.declared.Plan.{Plan}
 use Rattle.planning.specs.declared.Plan.TheVariants as plan_is
 use Rattle.promise.specs.Did.{Among}
 use Rattle.promise.specs.Shown.{resident_ok, Shown}
-use Rattle.lookup.specs.Models.{sight_mapped, sight_in, sight_found, SeenIf, Seen, SeenAt}
+use Rattle.lookup.specs.Models.{sight_mapped, sight_in, sight_by, sight_found, SeenIf, Seen, SeenAt}
 use Rattle.pool.specs.Models.{empty_pool, next_ok, taken_from, taken}
 use Rattle.planning.specs.Models.{top_ok, fit_ok, plan_if, plan_for, plan_of}
 use Rattle.laws.specs.Refusals.{admitted, check_passes}
@@ -35,14 +36,16 @@ pub record Inside (k : Memory) (p a : ℕ) : Type 0 where
   pub frame : (taken k.link k.head).frame < k.head.frames
 
 -- a start that is seen lies at the page or before it: only a find sees one
-found_low : (t lo p a c : ℕ) (f : Found) → Bounded 0 t p f → sight_is.Unmapped a c ≡ sight_found lo f → a ≤ p
-found_low t lo p a c (found_is.Start q w) l e = go (leb lo q) e
+found_low : (t lo p a c : ℕ) (g : Greatest) → Bounded 0 t p (Ok g) → sight_is.Unmapped a c ≡ sight_found lo g → a ≤ p
+found_low t lo p a c g l e = by g.place l.0 e
   where
-    go : (b : Bool) → sight_is.Unmapped a c ≡ sight_in b q w → a ≤ p
-    go true e = let same : a ≡ q = cc in omega (arith, l.0)
-    go false e = absurd (let z : ◌≡◌ {A = ℕ} 0 1 = cc in omega arith)
-found_low t lo p a c (found_is.Missing w) l e = absurd (let z : ◌≡◌ {A = ℕ} 0 1 = cc in omega arith)
-found_low t lo p a c (found_is.Refused n w) l e = absurd l
+    go : (b : Bool) (q : ℕ) → q ≤ p → sight_is.Unmapped a c ≡ sight_in b q g.words → a ≤ p
+    go true q l e = let same : a ≡ q = cc in omega (arith, l)
+    go false q l e = absurd (let z : ◌≡◌ {A = ℕ} 0 1 = cc in omega arith)
+
+    by : (o : Option ℕ) → IfSome o (λ q. q ≤ p) → sight_is.Unmapped a c ≡ sight_by lo o g.words → a ≤ p
+    by (Some q) l e = go (leb lo q) q l e
+    by None l e = absurd (let z : ◌≡◌ {A = ℕ} 0 1 = cc in omega arith)
 
 seen_low : (f t lo p : ℕ) (ws table : List ℕ) (b : Bool) (a c : ℕ) → extent.check (length ws) t p ≡ 0 → SeenIf b f t lo p ws table (sight_is.Unmapped a c)
     → a ≤ p
@@ -52,7 +55,7 @@ seen_low f t lo p ws table true a c e seen = go (ltb (at table p) f) seen
     go true q = absurd (let z : ◌≡◌ {A = ℕ} 0 1 = cc in omega arith)
     go false q = absurd (let z : ◌≡◌ {A = ℕ} 0 1 = cc in omega arith)
 seen_low f t lo p ws table false a c e seen =
-    found_low t lo p a c seen.found (subst (λ (n : ℕ). Bounded n t p seen.found) e seen.sought.any) seen.seen
+    found_low t lo p a c seen.found (subst (λ (n : ℕ). Bounded n t p (Ok seen.found)) e seen.sought.any) seen.seen
 
 -- the frame that is taken is a frame
 taken_low : (link : List ℕ) (h : Head) (n : ℕ) → eqb n 0 && leb h.frames h.fresh ≡ false → next_ok h.frames h.first n ≡ true
@@ -111,17 +114,17 @@ unmapped_hidden k i b a c seen shown =
         in_table f (ltb f k.head.frames) seen
     go false seen l = omega arith
 
-pub new_hidden : (k : Memory) (i b : ℕ) (s : Sight) → SeenAt k i b s → (a c : ℕ) → plan_of k s ≡ plan_is.New a c → Shown k i b → ⊥
+pub new_hidden : (k : Memory) (i b : ℕ) (s : Sight) → SeenAt k i b s → (a c : ℕ) → plan_of k s ≡ Ok (plan_is.New a c) → Shown k i b → ⊥
 new_hidden k i b (sight_is.Mapped f) seen a c e = absurd (let z : ◌≡◌ {A = ℕ} 0 1 = cc in omega arith)
 new_hidden k i b (sight_is.Unmapped a' c') seen a c e = unmapped_hidden k i b a' c' seen
 new_hidden k i b (sight_is.Outside c') seen a c e = absurd (let z : ◌≡◌ {A = ℕ} 0 1 = cc in omega arith)
 new_hidden k i b sight_is.Broken seen a c e = absurd (let z : ◌≡◌ {A = ℕ} 0 1 = cc in omega arith)
 
 -- a plan names a frame that there is, refuses with a number of touch, and maps only inside the tables
-abbrev pub Sane : Memory → ℕ → Plan → Type 0
-Sane k p (plan_is.Old f) = f < k.head.frames
-Sane k p (plan_is.New a c) = Inside k p a
-Sane k p (plan_is.Refused n c) = Among (4 ∷ 8 ∷ 9 ∷ []) n
+abbrev pub Sane : Memory → ℕ → Result Plan RefusedAfter → Type 0
+Sane k p (Ok (plan_is.Old f)) = f < k.head.frames
+Sane k p (Ok (plan_is.New a c)) = Inside k p a
+Sane k p (Err e) = Among (4 ∷ 8 ∷ 9 ∷ []) (number e.refusal)
 
 pub plan_sane : (k : Memory) (i b : ℕ) → asked (sizes_of k.head) (touch i b (lengths k)) ≡ 0 → (s : Sight) → SeenAt k i b s
     → Sane k (place_of (sizes_of k.head) i b) (plan_of k s)
@@ -144,13 +147,13 @@ pub record Maps (h : Head) (count stack : List ℕ) (t a c : ℕ) (s : Sight) : 
   pub some_left : empty_pool h ≡ false
   pub fits : fit_ok h count stack t a ≡ true
 
-pub plan_maps : (h : Head) (count stack : List ℕ) (t a c : ℕ) (s : Sight) → plan_for h count stack t s ≡ plan_is.New a c → Maps h count stack t a c s
+pub plan_maps : (h : Head) (count stack : List ℕ) (t a c : ℕ) (s : Sight) → plan_for h count stack t s ≡ Ok (plan_is.New a c) → Maps h count stack t a c s
 plan_maps h count stack t a c (sight_is.Mapped f) e = absurd (let z : ◌≡◌ {A = ℕ} 0 1 = cc in omega arith)
 plan_maps h count stack t a c (sight_is.Outside w) e = absurd (let z : ◌≡◌ {A = ℕ} 0 1 = cc in omega arith)
 plan_maps h count stack t a c sight_is.Broken e = absurd (let z : ◌≡◌ {A = ℕ} 0 1 = cc in omega arith)
 plan_maps h count stack t a c (sight_is.Unmapped q w) e = go (empty_pool h) (fit_ok h count stack t q) refl refl e
   where
-    go : (empty fits : Bool) → empty_pool h ≡ empty → fit_ok h count stack t q ≡ fits → plan_if empty fits q w ≡ plan_is.New a c
+    go : (empty fits : Bool) → empty_pool h ≡ empty → fit_ok h count stack t q ≡ fits → plan_if empty fits q w ≡ Ok (plan_is.New a c)
         → Maps h count stack t a c (sight_is.Unmapped q w)
     go true fits l f e = absurd (let z : ◌≡◌ {A = ℕ} 0 1 = cc in omega arith)
     go false false l f e = absurd (let z : ◌≡◌ {A = ℕ} 0 1 = cc in omega arith)
@@ -185,5 +188,5 @@ module _ (h : Head) (i b : ℕ) (index count table helper stack cache : List ℕ
             y.stack_long,
           )
 
-  pub planned_as : (t : ℕ) (r : Plan) → t ≡ places (sizes_of h) → r ≡ plan_for h count stack t s → Planned h i b index count table helper stack cache r
+  pub planned_as : (t : ℕ) (r : Result Plan RefusedAfter) → t ≡ places (sizes_of h) → r ≡ plan_for h count stack t s → Planned h i b index count table helper stack cache r
   planned_as t r et is = record { sight = s; seen = seen; is = rw et at is }

@@ -7,14 +7,15 @@ ghost use Rattle.planning.specs.Fits.{InReach};
 
 use checks::wide;
 use lookup::Sight;
+use machine::RefusedAfter;
 use memory::Head;
+use refusals::Refusal;
 
 // What a touch is to do: nothing for a resident page; map one of the region that starts at a place.
 #[derive(Clone, Copy)]
 pub enum Plan {
     Old(u32),
     New(usize, u32),
-    Refused(u32, u32),
 }
 
 // Whether the newest entry of a region of n pages is a place.
@@ -29,6 +30,7 @@ fn top_ok(stack: &[u32], t: usize, a: usize, n: usize) -> bool
 }
 
 // Whether the words that a new page of the region at a needs are where they may be.
+#[tactic(auto, unfolding(crate::specs::Models::fit_ok))]
 fn fit(h: Head, count: &[u32], stack: &[u32], t: usize, a: usize) -> bool
     requires { (a < t) × (t ≤ 262144) × (t ≤ length count.now) × (t ≤ length stack.now) }
     ensures { result ≡ fit_ok h count.now stack.now t a }
@@ -44,22 +46,37 @@ fn fit(h: Head, count: &[u32], stack: &[u32], t: usize, a: usize) -> bool
 }
 
 // What a touch is to do about a page so seen. Reads only.
-pub fn plan_for(h: Head, s: Sight, count: &[u32], stack: &[u32], t: usize) -> Plan
+pub fn plan_for(
+    h: Head,
+    s: Sight,
+    count: &[u32],
+    stack: &[u32],
+    t: usize,
+) -> Result<Plan, RefusedAfter>
     requires { InReach s t count.now stack.now }
     ensures { result ≡ plan_for h count.now stack.now t s }
 {
     match s {
-        Sight::Mapped(f) => Plan::Old(f),
-        Sight::Unmapped(a, c) => {
+        Sight::Mapped(f) => Ok(Plan::Old(f)),
+        Sight::Unmapped(a, words) => {
             if pool::is_empty(h) {
-                return Plan::Refused(8, c);
+                return Err(RefusedAfter {
+                    refusal: Refusal::PoolEmpty,
+                    words,
+                });
             }
             if fit(h, count, stack, t, a) {
-                return Plan::New(a, c);
+                return Ok(Plan::New(a, words));
             }
-            Plan::Refused(9, c)
+            Err(RefusedAfter {
+                refusal: Refusal::Damaged,
+                words,
+            })
         }
-        Sight::Outside(c) => Plan::Refused(4, c),
-        Sight::Broken => Plan::Refused(9, 0),
+        Sight::Outside(words) => Err(RefusedAfter {
+            refusal: Refusal::NoRegion,
+            words,
+        }),
+        Sight::Broken => Err(RefusedAfter::from(Refusal::Damaged)),
     }
 }

@@ -1,5 +1,5 @@
 -- Playing codes: a list after another, and what follows of demands 2 and 3.
-use Rattle.std.specs.Prelude.{◌≡◌, refl, List, ◌∷◌, ◌++◌, ℕ, ◌+◌, length}
+use Rattle.std.specs.Prelude.{◌≡◌, refl, List, ◌∷◌, ◌++◌, ℕ, ◌+◌, length, Option as Maybe, Some}
 use Rattle.std.proofs.Common.{sym, ap, ◌∙◌, subst, inl, add-zero, zero-add, suc-add, add-suc, arith}
 use Rattle.std.proofs.Math.Option.{Option, some, none-ne-some}
 use Rattle.machine.specs.Machine.{Sizes, State, Call as MachineCall, start, page, free, translate, read, write, list, write_map, read_map, facts, asked, Answer}
@@ -13,10 +13,7 @@ use Rattle.demands.specs.History.{Event, lent_front, Run, none, next}
 use Rattle.demands.specs.Demands.{machine_at, Demand3}
 use Rattle.demands.proofs.Theorems.{demand_3}
 use Rattle.serving.specs.Steps.{whole_step, Stands, serve_follows}
-use Rattle.requests.specs.declared.Request.{Request}
-use Rattle.decoding.specs.declared.Parts.{Parts}
 use Rattle.decoding.specs.declared.Code.{Code}
-use Rattle.decoding.specs.declared.Code.TheVariants.{Call}
 use Rattle.plays.specs.Plays.{Desk, called, laid, Played, play_one, plays, Turns}
 use Rattle.plays.specs.Plays.Turns.{none as no_turn, skip, turn}
 use Rattle.plays.specs.Promise.{by_machine, BeginsFirst, Plays}
@@ -37,7 +34,7 @@ module _ (codes : List ℕ) (whole_bytes whole_records : ℕ) where
       → Run k es k'
   turns_run no_turn = none
   turns_run (skip e t) = turns_run t
-  turns_run (turn {k = k} {k₁ = k₁} {q = q} {a = a} e did same t) = next (lent_front (whole_step q _ _ k a k₁ did)) (turns_run t)
+  turns_run (turn {k = k} {k₁ = k₁} {c = c} {a = a} e did same t) = next (lent_front (whole_step c.request _ _ k a k₁ did)) (turns_run t)
 
   pub record Beside (x : Played) (k' : Memory) (d' : Desk) : Type 0 where
     pub desk_is : d' ≡ x.desk
@@ -48,9 +45,9 @@ module _ (codes : List ℕ) (whole_bytes whole_records : ℕ) where
   unfolding plays
   turns_beside m no_turn S = record { desk_is = refl; stands = S }
   turns_beside m (skip e t) S = rw e (turns_beside m t S)
-  turns_beside m (turn {k = k} {k₁ = k₁} {d = d} {q = q} {p = p} {a = a} e did same t) S =
-      let f = serve_follows m k q _ _ a k₁ S did in
-      let rest = turns_beside (after m (called q p d (lengths k))) t f.stands in
+  turns_beside m (turn {k = k} {k₁ = k₁} {d = d} {c = c} {a = a} e did same t) S =
+      let f = serve_follows m k c.request _ _ a k₁ S did in
+      let rest = turns_beside (after m (called c d (lengths k))) t f.stands in
       rw (e, ← f.answer_is) (rw same at rest)
 
 -- ---- demands 2 and 3
@@ -74,12 +71,12 @@ begun_step : (m s : State) (z : Sizes) (c : MachineCall) → (facts c).begins �
 begun_step m s z c is e = passed_step m c (same_asked m.sizes z s c is ∙ e) ∙ begins_so m s c is
 
 -- so its player's first move is this
-first_play : (m : State) (k : Memory) (d : Desk) (q : Request) (p : Parts) (a : Answer) → (facts (called q p d (lengths k))).begins ≡ some m
-    → asked (sizes_of k.head) (called q p d (lengths k)) ≡ 0 → a ≡ done
-    → play_one 0 (lengths k) (Call q p) (record { state = unstarted k.ram; desk = d }) ≡ record { state = with_ram m k.ram; desk = laid 0 p a d }
-first_play m k d q p a is e t =
-    let begun = begun_step (unstarted k.ram) m (sizes_of k.head) (called q p d (lengths k)) is e in
-    rw t (ap {B = Played} (λ (o : Out). record { state = o.after; desk = laid 0 p o.answer d }) begun)
+first_play : (m : State) (k : Memory) (d : Desk) (c : Code) (a : Answer) → (facts (called c d (lengths k))).begins ≡ some m
+    → asked (sizes_of k.head) (called c d (lengths k)) ≡ 0 → a ≡ done
+    → play_one 0 (lengths k) (Some c) (record { state = unstarted k.ram; desk = d }) ≡ record { state = with_ram m k.ram; desk = laid 0 c.parts a d }
+first_play m k d c a is e t =
+    let begun = begun_step (unstarted k.ram) m (sizes_of k.head) (called c d (lengths k)) is e in
+    rw t (ap {B = Played} (λ (o : Out). record { state = o.after; desk = laid 0 c.parts o.answer d }) begun)
 
 record FromFirst (codes : List ℕ) (n : ℕ) (m : State) (k : Memory) (d : Desk) (es : List Event) (k' : Memory) (d' : Desk) : Type 0 where
   desk_is : d' ≡ (by_machine codes n k d (unstarted k.ram)).desk
@@ -92,18 +89,17 @@ from_first : {n : ℕ} {k k' : Memory} {d d' : Desk} {es : List Event} (codes : 
     → Turns codes (length d.bytes) (length d.records) 0 n k d es k' d' → FromFirst codes n m k d es k' d'
 unfolding plays
 from_first codes m b no_turn = absurd (omega (arith, b.any))
-from_first codes m b (skip e t) = absurd (let x : ◌≡◌ {A = ℕ} 0 1 = cc b.first in omega arith)
-from_first codes m b (turn {n = n} {k = k} {k₁ = k₁} {d = d} {q = q} {p = p} {a = a} e did same t) =
+from_first codes m b (skip e t) = absurd (cc b.first)
+from_first codes m b (turn {n = n} {k = k} {k₁ = k₁} {d = d} {c = x} {a = a} e did same t) =
     let bytes = length d.bytes in
     let records = length d.records in
-    let same-request : q ≡ b.request = cc b.first in
-    let same_parts : p ≡ b.parts = cc b.first in
-    let c = called q p d in
-    let is : (facts (c (lengths k))).begins ≡ some m = rw (same-request, same_parts) b.begins in
-    let passes : asked (sizes_of k.head) (c (lengths k)) ≡ 0 = rw (same-request, same_parts) b.accepted in
+    let same_code : x ≡ b.code = cc b.first in
+    let c = called x d in
+    let is : (facts (c (lengths k))).begins ≡ some m = rw same_code b.begins in
+    let passes : asked (sizes_of k.head) (c (lengths k)) ≡ 0 = rw same_code b.accepted in
     let begun = subst (λ (o : Option State). BeginsBy o (asked (sizes_of k.head) (c (lengths k))) k a k₁) is did.begins passes in
-    let move = ap (λ (x : Code). play_one 0 (lengths k) x (record { state = unstarted k.ram; desk = d })) e
-    ∙ first_play m k d q p a is passes begun.0 in
+    let move = ap (λ (o : Maybe Code). play_one 0 (lengths k) o (record { state = unstarted k.ram; desk = d })) e
+    ∙ first_play m k d x a is passes begun.0 in
     let beside = turns_beside codes bytes records (with_ram m k.ram) t (inl begun.1) in
     record {
       desk_is = (rw same at beside.desk_is) ∙ ap (λ (x : Played). (plays codes bytes records (lengths k) 1 n x).desk) (sym move);
@@ -117,7 +113,7 @@ from_first codes m b (turn {n = n} {k = k} {k₁ = k₁} {d = d} {q = q} {p = p}
               first = record { call = c; lent = lengths k; answer = a };
               begins = is;
               accepted = begun.0;
-              step = whole_step q _ _ k a k₁ did;
+              step = whole_step x.request _ _ k a k₁ did;
             };
             run = turns_run codes bytes records t;
           });

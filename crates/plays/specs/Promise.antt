@@ -1,5 +1,5 @@
 -- What playing a list of codes promises: demands 2 and 3 of the calls that were made.
-use Rattle.std.specs.Prelude.{◌≡◌, List, ◌∷◌, ℕ, ◌<◌, length}
+use Rattle.std.specs.Prelude.{◌≡◌, List, ◌∷◌, ℕ, ◌<◌, length, Some}
 use Rattle.std.proofs.Math.Option.{some}
 use Rattle.machine.specs.Machine.{State, facts, asked, unstarted}
 use Rattle.memory.specs.Memory.{Memory, sizes_of, lengths}
@@ -7,9 +7,7 @@ use Rattle.promise.specs.Holds.{Roomy}
 use Rattle.demands.specs.History.{Event}
 use Rattle.demands.specs.Demands.{machine_at, Demand3}
 use Rattle.serving.specs.Steps.{Stands}
-use Rattle.requests.specs.declared.Request.{Request}
-use Rattle.decoding.specs.declared.Parts.{Parts}
-use Rattle.decoding.specs.declared.Code.TheVariants.{Call}
+use Rattle.decoding.specs.declared.Code.{Code}
 use Rattle.plays.specs.Codes.{code_at}
 use Rattle.plays.specs.Plays.{Desk, called, Played, plays, Turns}
 
@@ -29,11 +27,10 @@ module _ (codes : List ℕ) (n : ℕ) (k : Memory) (d : Desk) where
   -- the first code is a call that begins this state, a start or the reading of a map, and it passes its checks
   pub record BeginsFirst (m : State) : Type 0 where
     pub any : 0 < n
-    pub request : Request
-    pub parts : Parts
-    pub first : code_at codes whole_bytes whole_records 0 ≡ Call request parts
-    pub begins : (facts (called request parts d (lengths k))).begins ≡ some m
-    pub accepted : asked (sizes_of k.head) (called request parts d (lengths k)) ≡ 0
+    pub code : Code
+    pub first : code_at codes whole_bytes whole_records 0 ≡ Some code
+    pub begins : (facts (called code d (lengths k))).begins ≡ some m
+    pub accepted : asked (sizes_of k.head) (called code d (lengths k)) ≡ 0
 
   pub record Plays (k' : Memory) (d' : Desk) : Type 0 where
     -- the calls that were made, in order, with what they answered

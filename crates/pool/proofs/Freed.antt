@@ -1,6 +1,6 @@
 -- What free did.
 use Rattle.std.proofs.Common.{sym, ap, ◌∙◌}
-use Rattle.machine.specs.Machine.{free, asked, Answer, answer, after, accepted}
+use Rattle.machine.specs.Machine.{free, asked, Answer, accepted}
 use Rattle.memory.specs.Memory.{Memory}
 use Rattle.promise.specs.Did.{Did}
 use Rattle.pool.specs.Models.{count_says, FreeDone}

@@ -1,4 +1,3 @@
 pub mod Freeing
 pub mod Freed
-pub mod Taking
 pub mod Counting

@@ -10,8 +10,8 @@ ghost use Rattle.pool.specs.Models.{empty_pool, next_ok, taken, newest_of, with_
 ghost use Rattle.pool.specs.Takes.{Takeable, Top};
 
 use checks::{sizes_ok, wide};
-use machine::Free;
 use memory::Head;
+use refusals::Refusal;
 
 // A frame taken from the pool, and the head without it.
 #[derive(Clone, Copy)]
@@ -21,6 +21,7 @@ pub struct Taken {
 }
 
 // Whether no frame is left.
+#[tactic(auto, unfolding(crate::specs::Models::empty_pool))]
 pub fn is_empty(h: Head) -> bool
     ensures { result ≡ empty_pool h }
 {
@@ -45,17 +46,12 @@ pub fn take(h: Head, link: &[u32]) -> Taken
     requires { Takeable h link.now }
     ensures { result ≡ taken link.now h }
 {
-    let page = h.page;
     if h.many == 0 {
         let fresh = h.fresh + 1;
         let rest = Head {
-            spaces: h.spaces,
-            pages: h.pages,
-            frames: h.frames,
-            page,
-            first: h.first,
             many: 0,
             fresh,
+            ..h
         };
         return Taken {
             frame: h.fresh,
@@ -65,15 +61,7 @@ pub fn take(h: Head, link: &[u32]) -> Taken
     let f = wide(h.first);
     let first = link[f];
     let many = h.many - 1;
-    let rest = Head {
-        spaces: h.spaces,
-        pages: h.pages,
-        frames: h.frames,
-        page,
-        first,
-        many,
-        fresh: h.fresh,
-    };
+    let rest = Head { first, many, ..h };
     Taken {
         frame: h.first,
         head: rest,
@@ -98,35 +86,31 @@ pub fn put_back(h: Head, link: &mut [u32], newest: u32, oldest: usize, n: u32) -
     ensures value { result ≡ with_chain h newest n }
     ensures link_after { link.new ≡ set link.old oldest h.first }
 {
-    let page = h.page;
     let many = h.many + n;
     link[oldest] = h.first;
     Head {
-        spaces: h.spaces,
-        pages: h.pages,
-        frames: h.frames,
-        page,
         first: newest,
         many,
-        fresh: h.fresh,
+        ..h
     }
 }
 
 // The frames in the pool. Lent nothing but the head.
-pub fn free(head: Head) -> Free
+#[tactic(auto, using(machine::proofs::Laws::Sizes::fit))]
+pub fn free(head: Head) -> Result<u32, Refusal>
     ensures { (index count table helper stack cache link ram : List ℕ) →
         Did (λ _. machine.free) (memory head index count table helper stack cache link ram) (free_says result)
         (memory head index count table helper stack cache link ram) }
 {
     if !sizes_ok(head) {
-        return Free::Refused(1);
+        return Err(Refusal::BadSizes);
     }
     // a linked frame was given once, so there are no more of them than were given
     if head.fresh < head.many {
-        return Free::Refused(9);
+        return Err(Refusal::Damaged);
     }
     if head.frames < head.fresh {
-        return Free::Refused(9);
+        return Err(Refusal::Damaged);
     }
-    Free::Frames(head.many + (head.frames - head.fresh))
+    Ok(head.many + (head.frames - head.fresh))
 }

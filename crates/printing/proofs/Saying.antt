@@ -1,26 +1,25 @@
 -- The text of the records in a buffer, and what is said with room and without.
-use mathlib.Core.Path.{◌≡◌, refl, sym, ap, ◌∙◌}
-use mathlib.Core.Bool.{Bool, true, false, cond}
+use mathlib.Core.Path.{◌≡◌, sym, ap, ◌∙◌}
+use mathlib.Core.Bool.{true, false, cond}
 use mathlib.Core.List.{List, [], ◌++◌}
 use Prim.Native.Nat.{ℕ, ◌+◌, ◌*◌, ◌≤◌, ◌<◌}
-use native.Mathlib.Omega.{arith}
-use borrow.Author.Tests.{leb-true}
+use borrow.Author.Tests.{le-leb, lt-leb}
+use Rattle.std.proofs.Math.Bool.{and-false}
 use lib.Dec.{leb}
 use lib.ListN.{length, take, drop}
 use lib.Seq.{take_at}
-use Rattle.machine.proofs.Laws.Sizes.{both}
 use Rattle.promise.specs.Filled.{records_in}
 use Rattle.requests.specs.Requests.{region_numbers, replied}
 use Rattle.requests.specs.Laws.{records_length, numbers_length, records_numbers}
 use Rattle.requests.specs.declared.Reply.{Reply}
 use Rattle.requests.specs.declared.Reply.TheVariants as reply_is
 use Rattle.digits.specs.Text.{decimal, numbers_text}
-use Rattle.digits.specs.Writing.{Wrote}
+use Rattle.digits.specs.declared.Text.{Text}
+use Rattle.digits.specs.Writing.{Wrote, Added}
 use Rattle.digits.specs.Laws.{wrote_none}
 use Rattle.texts.specs.Text.{regions_word}
 use Rattle.printing.specs.Text.{text}
-use Rattle.printing.specs.Writing.{shown, roomy, said_text, Says}
-use Rattle.printing.specs.Laws.{said_whole}
+use Rattle.printing.specs.Writing.{shown, said_text, Says}
 
 -- ---- records
 
@@ -37,35 +36,27 @@ regions_text n bytes ws h = rw (records_length n ws, records_are n ws h)
 -- ---- with room and without
 
 module _ (at : ℕ) (out : List ℕ) (r : Reply) (bytes records : List ℕ) where
-  -- nothing is said where the four tests can't all hold
-  unsaid : (at + 65536 ≤ length out → length bytes ≤ 32736 → length records ≤ 3072 → shown r ≤ length records → ⊥) → Says at out r bytes records at out
-  unfolding said_text
-  unsaid never = go (roomy at out r bytes records) refl
-    where
-      go : (t : Bool) → roomy at out r bytes records ≡ t → Wrote at out (cond t (text (replied r bytes records)) []) at out
-      go true e =
-          let p₃ = both _ (leb (shown r) (length records)) e in
-          let p₂ = both _ (leb (length records) 3072) p₃.0 in
-          let p₁ = both (leb (at + 65536) (length out)) (leb (length bytes) 32736) p₂.0 in
-          absurd
-          (never (leb-true (at + 65536) (length out) p₁.0) (leb-true (length bytes) 32736 p₁.1) (leb-true (length records) 3072 p₂.1)
-          (leb-true (shown r) (length records) p₃.1))
-      go false e = wrote_none at out
+  -- nothing is said where one of the tests fails
 
-  pub short_out : length out < at + 65536 → Says at out r bytes records at out
-  short_out h = unsaid (λ room few_bytes few-records shown-in. omega arith)
+  pub no_room : leb (at + 65536) (length out) ≡ false → Says at out r bytes records at out
+  unfolding said_text
+  no_room h = rw h (wrote_none at out)
 
   pub many_bytes : 32736 < length bytes → Says at out r bytes records at out
-  many_bytes h = unsaid (λ room few_bytes few-records shown-in. omega arith)
+  unfolding said_text
+  many_bytes h = rw (lt-leb (length bytes) 32736 h, and-false) (wrote_none at out)
 
   pub many_records : 3072 < length records → Says at out r bytes records at out
-  many_records h = unsaid (λ room few_bytes few-records shown-in. omega arith)
+  unfolding said_text
+  many_records h = rw (lt-leb (length records) 3072 h, and-false) (wrote_none at out)
 
-  -- a reply q that shows more records than there are
-  pub records_lack : (q : Reply) → r ≡ q → length records < shown q → Says at out r bytes records at out
-  records_lack q e h = unsaid (λ room few_bytes few-records shown-in. let shows = rw e at shown-in in omega arith)
+  -- with room a reply is said, unless it shows more records than there are
+  pub said_in_room : leb (at + 65536) (length out) ≡ true → length bytes ≤ 32736 → length records ≤ 3072 → {end : ℕ} {out' : List ℕ}
+      → Wrote at out (cond (leb (shown r) (length records)) (text (replied r bytes records)) []) end out' → Says at out r bytes records end out'
+  unfolding said_text
+  said_in_room room few_bytes few_records w = rw (room, le-leb (length bytes) 32736 few_bytes, le-leb (length records) 3072 few_records) w
 
-  -- a reply q with room
-  pub said : (q : Reply) → r ≡ q → at + 65536 ≤ length out → length bytes ≤ 32736 → length records ≤ 3072 → shown q ≤ length records
-      → {end : ℕ} {out' : List ℕ} → Wrote at out (text (replied q bytes records)) end out' → Says at out r bytes records end out'
-  said q e room few_bytes few-records shown-in w = rw (e, said_whole at out q bytes records room few_bytes few-records shown-in) w
+-- a reply q that shows no more records than there are
+pub shows : {t t' : Text} {r : Reply} (bytes records : List ℕ) (q : Reply) → r ≡ q → shown q ≤ length records
+    → Added t (text (replied q bytes records)) t' → Added t (cond (leb (shown r) (length records)) (text (replied r bytes records)) []) t'
+shows bytes records q e shown_in a = rw (e, le-leb (shown q) (length records) shown_in) a

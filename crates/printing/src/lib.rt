@@ -1,57 +1,77 @@
 // The text of an answer, written into a lent buffer after what stands there already.
 #![tactic(auto)]
 
-ghost use Rattle.std.specs.Prelude.{[]};
+ghost use Rattle.std.specs.Prelude.{[], ◌+◌, ◌≤◌, cond, leb, length};
+ghost use Rattle.requests.specs.Requests.{replied};
 ghost use Rattle.requests.specs.declared.Reply.TheVariants.{Refused};
-ghost use Rattle.printing.specs.Writing.{Says};
+ghost use Rattle.digits.specs.Writing.{Added};
+ghost use Rattle.printing.specs.Text.{text as text_of};
+ghost use Rattle.printing.specs.Writing.{shown, Says};
 
+use digits::Text;
 use requests::Reply;
-use texts::{
-    put_absent, put_at, put_bytes, put_done, put_free, put_map, put_new, put_no, put_ok, put_old,
-    put_pages, put_refusal, put_regions, put_resident,
-};
+use texts::{put_bytes, put_map};
+
+// Room for the longest answer.
+const ROOM: usize = 65_536;
+
+const MOST_BYTES: usize = 32_736;
+
+const MOST_NUMBERS: usize = 3_072;
+
+// A reply in room for the longest; nothing where it shows more records than there are.
+fn put_reply(text: &mut Text<'_>, reply: Reply, bytes: &[u8], records: &[u32])
+    requires room { text.old.at + 65536 ≤ length text.old.out.now }
+    requires few_bytes { length bytes.now ≤ 32736 }
+    requires few_numbers { length records.now ≤ 3072 }
+    ensures { Added text.old (cond (leb (shown reply) (length records.now)) (text_of (replied reply bytes.now records.now)) []) text.new }
+{
+    match reply {
+        Reply::Done => text.put(b"ok"),
+        Reply::Old(f) => {
+            text.put_pair(b"frame ", u64::from(f));
+            text.put(b" old 0");
+        }
+        Reply::New(f, w) => {
+            text.put_pair(b"frame ", u64::from(f));
+            text.put_pair(b" new ", u64::from(w));
+        }
+        Reply::Resident(f) => {
+            text.put_pair(b"resident ", u64::from(f));
+            text.put(b" 0");
+        }
+        Reply::Absent(w) => text.put_pair(b"absent ", u64::from(w)),
+        Reply::Pages(n) => text.put_pair(b"pages ", u64::from(n)),
+        Reply::Frames(n) => text.put_pair(b"free ", u64::from(n)),
+        Reply::At(p) => text.put_pair(b"at ", p as u64),
+        Reply::Bytes => put_bytes(text, bytes),
+        Reply::Regions(n) => {
+            let Some(numbers) = records.get(..3 * n as usize) else {
+                return;
+            };
+            text.put_pair(b"regions ", u64::from(n));
+            text.put_numbers(numbers);
+        }
+        Reply::Map(n) => put_map(text, bytes, n),
+        Reply::Refused(k) => text.put_pair(b"no ", u64::from(k)),
+        Reply::RefusedAfter(k, w) => {
+            text.put_pair(b"no ", u64::from(k));
+            text.put_pair(b" ", u64::from(w));
+        }
+        Reply::Handed => text.put(b"done"),
+    }
+}
 
 // The text of a reply; where there isn't room for the longest answer (`roomy`) nothing is written.
 pub fn say(out: &mut [u8], at: usize, reply: Reply, bytes: &[u8], records: &[u32]) -> usize
     ensures { Says at out.old reply bytes.now records.now result out.new }
 {
-    if out.len() < at {
+    let mut text = Text { out, at };
+    if !text.has_room(ROOM) || MOST_BYTES < bytes.len() || MOST_NUMBERS < records.len() {
         return at;
     }
-    if out.len() - at < 65536 {
-        return at;
-    }
-    if 32736 < bytes.len() {
-        return at;
-    }
-    if 3072 < records.len() {
-        return at;
-    }
-    match reply {
-        Reply::Done => put_ok(out, at),
-        Reply::Old(f) => put_old(out, at, f),
-        Reply::New(f, w) => put_new(out, at, f, w),
-        Reply::Resident(f) => put_resident(out, at, f),
-        Reply::Absent(w) => put_absent(out, at, w),
-        Reply::Pages(n) => put_pages(out, at, n),
-        Reply::Frames(n) => put_free(out, at, n),
-        Reply::At(p) => put_at(out, at, p),
-        Reply::Bytes => put_bytes(out, at, bytes),
-        Reply::Regions(n) => {
-            if 1024 < n {
-                return at;
-            }
-            let k = 3 * n as usize;
-            if records.len() < k {
-                return at;
-            }
-            put_regions(out, at, n, &records[..k])
-        }
-        Reply::Map(n) => put_map(out, at, bytes, n),
-        Reply::Refused(k) => put_no(out, at, k),
-        Reply::RefusedAfter(k, w) => put_refusal(out, at, k, w),
-        Reply::Handed => put_done(out, at),
-    }
+    put_reply(&mut text, reply, bytes, records);
+    text.at
 }
 
 // The text of a refusal that comes ahead of any call, with no bytes and no records. It says what `say` would; apart from it, since
@@ -59,11 +79,10 @@ pub fn say(out: &mut [u8], at: usize, reply: Reply, bytes: &[u8], records: &[u32
 pub fn say_refused(out: &mut [u8], at: usize, k: u32) -> usize
     ensures { Says at out.old (Refused k) [] [] result out.new }
 {
-    if out.len() < at {
+    let mut text = Text { out, at };
+    if !text.has_room(ROOM) {
         return at;
     }
-    if out.len() - at < 65536 {
-        return at;
-    }
-    put_no(out, at, k)
+    text.put_pair(b"no ", u64::from(k));
+    text.at
 }

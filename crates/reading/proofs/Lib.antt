@@ -1,4 +1,3 @@
 pub mod Reading
 pub mod Checked
-pub mod Looking
 pub mod Copies

@@ -1,4 +1,10 @@
 -- A read that looks every page of its span up first, ascending, keeps the promise.
+use Rattle.std.specs.Prelude.{Result, Ok, Err}
+use Rattle.refusals.specs.Refusals.{number, refusal}
+use Rattle.refusals.specs.declared.Refusal.{Refusal}
+use Rattle.refusals.proofs.Laws.{not_none}
+use Rattle.spans.specs.Spans.{frame_seen, absence_of}
+use Rattle.machine.specs.declared.RefusedAfter.{RefusedAfter}
 use Rattle.std.proofs.Math.Path.{◌≡◌, refl, ap}
 use Rattle.std.proofs.Common.{sym, ap₂, ◌∙◌, subst, zero-add, add-zero, suc-add, add-suc}
 use mathlib.Core.List.{List}
@@ -13,8 +19,7 @@ use Rattle.machine.proofs.Laws.Sizes.{fit, some_bytes}
 use Rattle.machine.proofs.Laws.Shows.{in_pages}
 use Rattle.machine.specs.Answers.{looked_says}
 use Rattle.machine.specs.declared.Looked.{Looked}
-use Rattle.machine.specs.declared.Looked.TheVariants.{Resident}
-use Rattle.machine.specs.declared.Copied.TheVariants as copied_is
+use Rattle.machine.specs.declared.Looked.TheVariants.{Resident, Absent}
 use Rattle.memory.specs.Memory.{Memory, sizes_of, lengths}
 use Rattle.promise.specs.Holds.{Holds}
 use Rattle.promise.specs.Did.{Did}
@@ -24,7 +29,7 @@ use Rattle.laws.specs.Spans.{span_inside, read_lengths}
 use Rattle.laws.specs.SpanChecks.{Reached, read_check, read_reached, span_page}
 use Rattle.laws.specs.Found.{looked_later, Found, page_found, residence, RefusedAs, refused_later, refused_is}
 use Rattle.laws.specs.Passing.{page_passes}
-use Rattle.laws.specs.Told.{from_four, early_refused, told_did}
+use Rattle.laws.specs.Told.{from_four, early_refused, told_did, told_refused}
 use Rattle.laws.specs.Parts.{OnResident, CopiedOut}
 
 -- ---- the first absence, page by page
@@ -82,7 +87,7 @@ module _ (k : Memory) (i a : ℕ) where
   resident_none m h = ap (first_absence m (place_of m.sizes i a)) (sub_self a)
 
   module _ (b : ℕ) (l : a ≤ b) (before : ResidentTo k i a b) (passes : asked (sizes_of k.head) (look i b (lengths k)) ≡ 0)
-      (found : Looked) (looked : Did (look i b) k (looked_says found) k) where
+      (found : Result Looked RefusedAfter) (looked : Did (look i b) k (looked_says found) k) where
     -- the page after them, as it was found
     next_is : (m : State) → Holds m k → (n : ℕ) → absence (page_of m (place_of m.sizes i b)) ≡ n → first_absence m (place_of m.sizes i a) (b - a + 1) ≡ n
     next_is m h n e =
@@ -93,7 +98,7 @@ module _ (k : Memory) (i a : ℕ) where
     found_is : (m : State) → Holds m k → Found m (place_of m.sizes i b) found
     found_is m h = page_found m k h i b passes found looked
 
-    pub resident_more : (f : ℕ) → found ≡ Resident f → ResidentTo k i a (b + 1)
+    pub resident_more : (f : ℕ) → found ≡ Ok (Resident f) → ResidentTo k i a (b + 1)
     resident_more f e m h =
         ap (first_absence m (place_of m.sizes i a)) (let c : b + 1 - a ≡ b - a + 1 = omega arith in c)
         ∙ next_is m h 0 (ap absence (residence m _ f (subst (Found m _) e (found_is m h))).is)
@@ -101,11 +106,27 @@ module _ (k : Memory) (i a : ℕ) where
     pub stopped_at : (n c : ℕ) → RefusedAs found n → 4 ≤ n → b < a + c → (m : State) → Holds m k → first_absence m (place_of m.sizes i a) c ≡ n
     stopped_at n c e low t m h = first_absence_stops m _ (b - a) c n (omega arith) (next_is m h n (refused_is m _ found n e (found_is m h)).0) low
 
+-- ---- what `frame_seen` makes of a look's answer
+
+pub seen_refused : (found : Result Looked RefusedAfter) {e : Refusal} → Err e ≡ frame_seen found → RefusedAs found (absence_of found)
+seen_refused (Ok (Resident f)) is = absurd (let z : ◌≡◌ {A = ℕ} 0 1 = cc in omega arith)
+seen_refused (Ok (Absent w)) is = refl
+seen_refused (Err x) is = refl
+
+pub seen_frame : (found : Result Looked RefusedAfter) (f : ℕ) → Ok f ≡ frame_seen found → found ≡ Ok (Resident f)
+seen_frame (Ok (Resident g)) f is = let same : f ≡ g = cc in rw same
+seen_frame (Ok (Absent w)) f is = absurd (let z : ◌≡◌ {A = ℕ} 0 1 = cc in omega arith)
+seen_frame (Err x) f is = absurd (let z : ◌≡◌ {A = ℕ} 0 1 = cc in omega arith)
+
 -- ---- the promise
 
 module _ (i x : ℕ) (k : Memory) (buffer : List ℕ) (r : ℕ) (checked : r ≡ check_of k.head (read_lengths k) i (span_inside k.head x (length buffer))) where
-  pub read_early : (r ≡ 0 → ⊥) → ReadDid i x k (copied_is.Refused r) buffer buffer
-  read_early d = record { did = early_refused (read i x (length buffer)) k r (checked ∙ read_check k i x (length buffer)) d; kept = λ _ _. refl }
+  pub read_early : (e : Refusal) → number e ≡ r → ReadDid i x k (Err e) buffer buffer
+  read_early e is =
+      record {
+        did = early_refused (read i x (length buffer)) k (number e) (is ∙ checked ∙ read_check k i x (length buffer)) (not_none e);
+        kept = λ _ _. refl;
+      }
 
   module _ (passed : r ≡ 0) where
     abbrev z : Sizes
@@ -124,10 +145,11 @@ module _ (i x : ℕ) (k : Memory) (buffer : List ℕ) (r : ℕ) (checked : r ≡
           subst (λ (z : Sizes). first_absence m (place_of m.sizes i (x / z.page)) (span_pages z x (length buffer)) ≡ n) h.sizes_are
           (sym (ap₂ (λ (a c : ℕ). first_absence m (place_of m.sizes i a) c) first_is count_is) ∙ e)
 
-      pub read_stopped : (b : ℕ) → first ≤ b → b < first + count → ResidentTo k i first b → (found : Looked) → Did (look i b) k (looked_says found) k
-          → (n : ℕ) → RefusedAs found n → ReadDid i x k (copied_is.Refused n) buffer buffer
+      pub read_stopped : (b : ℕ) → first ≤ b → b < first + count → ResidentTo k i first b → (found : Result Looked RefusedAfter) → Did (look i b) k (looked_says found) k
+          → (out : Result (Unit {0}) Refusal) → RefusedAs found (refusal out) → ReadDid i x k out buffer buffer
       unfolding accepted
-      read_stopped b l t before found looked n e =
+      read_stopped b l t before found looked out e =
+          let n = refusal out in
           let p = span_page z x (length buffer) b reached.sizes_ok_lem reached.ends (omega arith) (omega arith) in
           let look_passes = page_passes z Look i b (lengths k) reached.sizes_ok_lem reached.space p reached.lent in
           let later = looked_later i b k _ look_passes looked in
@@ -135,11 +157,12 @@ module _ (i x : ℕ) (k : Memory) (buffer : List ℕ) (r : ℕ) (checked : r ≡
           let low = from_four _ _ _ n (omega arith) (omega arith) (omega arith) given in
           record {
             did =
-                told_did (read i x (length buffer)) k (refused n) passes (given, refl) (tt, tt)
+                rw (told_refused (λ _. bytes buffer) out (λ none. omega arith))
+                (told_did (read i x (length buffer)) k (refused n) passes (given, refl) (tt, tt)
                 (λ m h.
                 ap (λ (c : ℕ). tell m (read_if m i x (length buffer) c))
                 (absence_is m h n (stopped_at k i first b l before look_passes found looked n count e low t m h))
-                ∙ ap (tell m) (read_refused m n low));
+                ∙ ap (tell m) (read_refused m n low)));
             kept = λ _ _. refl;
           }
         where
@@ -148,7 +171,7 @@ module _ (i x : ℕ) (k : Memory) (buffer : List ℕ) (r : ℕ) (checked : r ≡
           read_refused m (suc n) l = refl
 
       pub read_copied : (b : ℕ) → b ≡ first + count → ResidentTo k i first b → (buffer' : List ℕ) → CopiedOut k i x (length buffer) buffer'
-          → ReadDid i x k copied_is.Copied buffer buffer'
+          → ReadDid i x k (Ok tt) buffer buffer'
       unfolding accepted
       read_copied b last all buffer' copied =
           record {
@@ -159,7 +182,7 @@ module _ (i x : ℕ) (k : Memory) (buffer : List ℕ) (r : ℕ) (checked : r ≡
                 (subst (λ (c : ℕ). first_absence m (place_of m.sizes i first) c ≡ 0) (let s : b - first ≡ count = omega arith in s) (all m h)) in
                 ap (λ (c : ℕ). tell m (read_if m i x (length buffer) c)) none ∙ ap (λ (bs : List ℕ). tell m (bytes bs))
                 (sym (copied m h (on_resident m h none))));
-            kept = λ n e. absurd (let q : ◌≡◌ {A = ℕ} 0 1 = cc in omega arith);
+            kept = λ e is. absurd (let q : ◌≡◌ {A = ℕ} 0 1 = cc in omega arith);
           }
         where
           on_resident : (m : State) → Holds m k → span_absence m i x (length buffer) ≡ 0 → OnResident m i x (length buffer)

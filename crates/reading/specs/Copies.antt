@@ -1,5 +1,5 @@
 -- A page's part of a span copied out of the page's frame: these are the span's bytes on honest memory.
-use Rattle.std.specs.Prelude.{◌≡◌, refl, List, ℕ, ◌+◌, ◌*◌, ◌/◌, ◌%◌, ◌≤◌, ◌<◌, take, drop}
+use Rattle.std.specs.Prelude.{◌≡◌, refl, List, ℕ, ◌+◌, ◌*◌, ◌/◌, ◌%◌, ◌≤◌, ◌<◌, take, drop, Result, Ok}
 use Rattle.std.proofs.Common.{sym, ap, ◌∙◌, subst, add-zero, arith}
 use Rattle.std.proofs.Math.Option.{some}
 use Rattle.machine.specs.Machine.{Sizes, page_of_address, State, Page, outside, unmapped, mapped, page_of, ram_at, look, asked, absence}
@@ -8,6 +8,7 @@ use Rattle.machine.proofs.Laws.Holders.{ram_mapped}
 use Rattle.machine.specs.Answers.{looked_says}
 use Rattle.machine.specs.declared.Looked.{Looked}
 use Rattle.machine.specs.declared.Looked.TheVariants.{Resident}
+use Rattle.machine.specs.declared.RefusedAfter.{RefusedAfter}
 use Rattle.memory.specs.Memory.{Memory, memory, at, sizes_of, lengths, place_in}
 use Rattle.memory.specs.declared.Head.{Head}
 use Rattle.promise.specs.Holds.{Holds}
@@ -59,11 +60,11 @@ module _ (h : Head) (i x n : ℕ) (table ram : List ℕ) (pre : Part h i x n ram
       (λ m H on. (placed index count helper stack cache link m H on).1 ∙ ap (λ (g : ℕ). some (place_in h g x)) (sym is)) dst e
 
 -- out of the frame that a look answered
-module _ (k : Memory) (i x n : ℕ) (pre : Part k.head i x n k.ram) (b f : ℕ) (page_is : b ≡ x / (sizes_of k.head).page) (found : Looked)
-    (resident : found ≡ Resident f) (passes : asked (sizes_of k.head) (look i b (lengths k)) ≡ 0) (looked : Did (look i b) k (looked_says found) k) where
+module _ (k : Memory) (i x n : ℕ) (pre : Part k.head i x n k.ram) (b f : ℕ) (page_is : b ≡ x / (sizes_of k.head).page) (found : Result Looked RefusedAfter)
+    (resident : found ≡ Ok (Resident f)) (passes : asked (sizes_of k.head) (look i b (lengths k)) ≡ 0) (looked : Did (look i b) k (looked_says found) k) where
   pub looked_low : f < k.head.frames
   looked_low =
-      let later : Later (sizes_of k.head) (look i b (lengths k)) (looked_says (Resident f)) = rw resident at (looked_later i b k _ passes looked) in
+      let later : Later (sizes_of k.head) (look i b (lengths k)) (looked_says (Ok (Resident f))) = rw resident at (looked_later i b k _ passes looked) in
       later.1
 
   pub looked_copied : (dst : List ℕ) → dst ≡ take n (drop (place_in k.head f x) k.ram) → CopiedOut k i x n dst
@@ -71,7 +72,7 @@ module _ (k : Memory) (i x n : ℕ) (pre : Part k.head i x n k.ram) (b f : ℕ) 
     where
       at_frame : (m : State) → Holds m k → ram_at m i x ≡ some (place_in k.head f x)
       at_frame m H =
-          let there : Found m (page_of_address m.sizes i x) (Resident f) =
+          let there : Found m (page_of_address m.sizes i x) (Ok (Resident f)) =
           rw resident at (address_found m k H i x (rw page_is at passes) found (rw page_is at looked)) in
           let r = residence m (page_of_address m.sizes i x) f there in
           ram_mapped m i x r.start f (is_mapped m (page_of_address m.sizes i x) r.start f r.is)

@@ -12,9 +12,9 @@ ghost use Rattle.reading.specs.Copies.{CopiedBy};
 use checks::{check, span_inside};
 use copying::copy;
 use lookup::look_checked;
-use machine::{Copied, Looked};
 use memory::{ANY, Head, Lengths};
-use spans::{absence, frame_at, page_of, part, ram_place};
+use refusals::Refusal;
+use spans::{absence, frame_at, frame_seen, page_of, part, ram_place};
 
 // The bytes from address x on, all of one page, out of the page's frame.
 fn copy_frame(head: Head, frame: u32, x: usize, dst: &mut [u8], ram: &[u8])
@@ -44,6 +44,7 @@ fn copy_out(head: Head, space: u32, address: usize, buffer: &mut [u8], table: &[
 {
     let n = buffer.len();
     let mut done = 0;
+    // By hand, since no range or chunk of the library steps by parts that differ in size.
     while done < n {
         let x = address + done;
         let next = done + part(head, x, n - done);
@@ -65,7 +66,7 @@ pub fn read(
     stack: &[u32],
     cache: &[u32],
     ram: &[u8],
-) -> Copied
+) -> Result<(), Refusal>
     ensures { (link : List ℕ) →
         ReadDid space address
         (memory head index.now count.now table.now helper.now stack.now cache.now link
@@ -83,10 +84,7 @@ pub fn read(
         link: ANY,
         ram: ram.len(),
     };
-    let no = check(head, lent, space, span_inside(head, address, n));
-    if no != 0 {
-        return Copied::Refused(no);
-    }
+    check(head, lent, space, span_inside(head, address, n))?;
     let first = page_of(head, address);
     let pages = spans::pages(head, address, n);
     if pages == 1 {
@@ -101,15 +99,13 @@ pub fn read(
             stack,
             cache,
         );
-        let Looked::Resident(frame) = seen else {
-            return Copied::Refused(absence(seen));
+        let Ok(frame) = frame_seen(seen) else {
+            return absence(seen);
         };
         copy_frame(head, frame, address, buffer, ram);
-        return Copied::Copied;
+        return Ok(());
     }
-    let mut page = first;
-    let end = page + pages;
-    while page < end {
+    for page in first..first + pages {
         let found = look_checked(
             head,
             space,
@@ -121,11 +117,10 @@ pub fn read(
             stack,
             cache,
         );
-        let Looked::Resident(_) = found else {
-            return Copied::Refused(absence(found));
+        let Ok(_) = frame_seen(found) else {
+            return absence(found);
         };
-        page += 1;
     }
     copy_out(head, space, address, buffer, table, ram);
-    Copied::Copied
+    Ok(())
 }

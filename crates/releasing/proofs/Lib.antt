@@ -1,3 +1,2 @@
 pub mod Releasing
-pub mod Cutting
 pub mod Releases

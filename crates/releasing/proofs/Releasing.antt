@@ -7,7 +7,6 @@ use borrow.Author.Tests.{leb-true, ltb-true, le-leb, lt-ltb}
 use Rattle.std.proofs.lemmas.List.{length-map, length-reverse, set-get_or}
 use Rattle.sequence.specs.Sums.{sum, sum_append, hit, hit_same}
 use Rattle.sequence.specs.Changes.{changed_set}
-use Rattle.index.specs.Answers as index
 use Rattle.index.specs.Words.{IndexOf, bit_at}
 use Rattle.index.specs.Laws.{index_bit}
 use Rattle.machine.specs.declared.PageCall.TheVariants.{Release}

@@ -1,12 +1,13 @@
 -- What a release does, on lists.
-use Rattle.std.specs.Prelude.{◌≡◌, Bool, true, false, ◌&&◌, List, ℕ, zero, suc, ◌+◌, ◌-◌, leb, ltb, set}
+use Rattle.std.specs.Prelude.{◌≡◌, Bool, true, false, ◌&&◌, List, ℕ, zero, suc, ◌+◌, ◌-◌, leb, ltb, set, Option, Some, None, Result, Ok, Err}
 use Rattle.layer.specs.Words.{bit_at}
 use Rattle.machine.specs.Machine.{places, place_of, Answer, pages, refused}
 use Rattle.memory.specs.Memory.{Memory, at, sizes_of}
 use Rattle.memory.specs.declared.Head.{Head}
 use Rattle.pool.specs.Models.{newest_of, with_chain}
-use Rattle.releasing.specs.declared.Cut as cut
-use Rattle.releasing.specs.declared.Cut.TheVariants as cut_is
+use Rattle.refusals.specs.Refusals.{number}
+use Rattle.refusals.specs.declared.Refusal.{Refusal}
+use Rattle.refusals.specs.declared.Refusal.TheVariants.{NoStart, Damaged}
 use Rattle.laws.specs.Models.{check_of, Checked, page_inside, release_lengths}
 
 -- ---- release
@@ -16,10 +17,11 @@ unfoldable pub cut_ok : Head → List ℕ → List ℕ → ℕ → ℕ → ℕ �
 cut_ok h table stack t a n =
     leb (a + n) t && ltb (at stack a) t && ltb (at table (at stack a)) h.frames && ltb (at stack (a + n - 1)) t && leb (h.many + n) h.frames
 
-abbrev pub cut_if : ℕ → Bool → ℕ → cut.Cut
-cut_if zero fits a = cut_is.Empty
-cut_if (suc n) true a = cut_is.At a
-cut_if (suc n) false a = cut_is.Refused 9
+-- the region to give back, if it has pages
+abbrev pub cut_if : ℕ → Bool → ℕ → Result (Option ℕ) Refusal
+cut_if zero fits a = Ok None
+cut_if (suc n) true a = Ok (Some a)
+cut_if (suc n) false a = Err Damaged
 
 -- the frame of the oldest page of the region at a
 abbrev pub oldest_of : List ℕ → List ℕ → ℕ → ℕ
@@ -42,23 +44,23 @@ spliced k a =
       ram = k.ram;
     }
 
-abbrev pub cut_says : cut.Cut → Memory → Answer
-cut_says cut_is.Empty k = pages 0
-cut_says (cut_is.At a) k = pages (at k.count a)
-cut_says (cut_is.Refused n) k = refused n
+abbrev pub cut_says : Result (Option ℕ) Refusal → Memory → Answer
+cut_says (Ok None) k = pages 0
+cut_says (Ok (Some a)) k = pages (at k.count a)
+cut_says (Err e) k = refused (number e)
 
-abbrev pub cut_leaves : cut.Cut → Memory → Memory
-cut_leaves cut_is.Empty k = k
-cut_leaves (cut_is.At a) k = spliced k a
-cut_leaves (cut_is.Refused n) k = k
+abbrev pub cut_leaves : Result (Option ℕ) Refusal → Memory → Memory
+cut_leaves (Ok None) k = k
+cut_leaves (Ok (Some a)) k = spliced k a
+cut_leaves (Err e) k = k
 
 -- from whether the place is a start
-abbrev pub cut_for : Bool → Head → List ℕ → List ℕ → List ℕ → ℕ → ℕ → cut.Cut
+abbrev pub cut_for : Bool → Head → List ℕ → List ℕ → List ℕ → ℕ → ℕ → Result (Option ℕ) Refusal
 cut_for true h count table stack t a = cut_if (at count a) (cut_ok h table stack t a (at count a)) a
-cut_for false h count table stack t a = cut_is.Refused 5
+cut_for false h count table stack t a = Err NoStart
 
 -- what is to be done about place a of a memory
-abbrev pub cut_at : Memory → ℕ → cut.Cut
+abbrev pub cut_at : Memory → ℕ → Result (Option ℕ) Refusal
 cut_at k a = cut_for (bit_at k.index a) k.head k.count k.table k.stack (places (sizes_of k.head)) a
 
 pub record Releases (k : Memory) (a₀ : ℕ) (a : Answer) (k' : Memory) : Type 0 where

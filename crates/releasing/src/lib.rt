@@ -9,26 +9,12 @@ ghost use Rattle.promise.specs.Did.{Did};
 ghost use Rattle.releasing.specs.Models.{cut_ok, cut_if};
 ghost use Rattle.releasing.specs.Cuts.{Spliceable, Splices, CutOf};
 
-use checks::{all_places, check, passes, place, wide};
-use machine::Released;
-use memory::{ANY, Head, Lengths, ReleaseOut};
-
-// What a release is to do: nothing for an empty region; give back the pages of the one at a place.
-#[derive(Clone, Copy)]
-pub enum Cut {
-    Empty,
-    At(usize),
-    Refused(u32),
-}
-
-// The pages given back, and the head with their frames.
-#[derive(Clone, Copy)]
-pub struct Spliced {
-    pub pages: u32,
-    pub head: Head,
-}
+use checks::{all_places, check, place, wide};
+use memory::{ANY, Head, Lengths, Out};
+use refusals::Refusal;
 
 // Whether the words that a release of the region at a with n pages needs are where they may be.
+#[tactic(auto, unfolding(crate::specs::Models::cut_ok))]
 fn cuttable(h: Head, table: &[u32], stack: &[u32], t: usize, a: usize, n: usize) -> bool
     requires { (a < t) × (0 < n) × (n < 4294967296) × (t ≤ 262144) × (t ≤ length table.now) × (t ≤ length stack.now) }
     ensures { result ≡ cut_ok h table.now stack.now t a n }
@@ -49,22 +35,29 @@ fn cuttable(h: Head, table: &[u32], stack: &[u32], t: usize, a: usize, n: usize)
     wide(h.many) + n <= wide(h.frames)
 }
 
-// What to do about the region at a: nothing where it is empty.
-fn cut_at(h: Head, count: &[u32], table: &[u32], stack: &[u32], t: usize, a: usize) -> Cut
+// The region at a, if it has pages to give back.
+fn cut_at(
+    h: Head,
+    count: &[u32],
+    table: &[u32],
+    stack: &[u32],
+    t: usize,
+    a: usize,
+) -> Result<Option<usize>, Refusal>
     requires { (a < t) × (t ≤ 262144) × (t ≤ length count.now) × (t ≤ length table.now) × (t ≤ length stack.now) }
     ensures { result ≡ cut_if (at count.now a) (cut_ok h table.now stack.now t a (at count.now a)) a }
 {
     let n = wide(count[a]);
     if n == 0 {
-        return Cut::Empty;
+        return Ok(None);
     }
     if cuttable(h, table, stack, t, a, n) {
-        return Cut::At(a);
+        return Ok(Some(a));
     }
-    Cut::Refused(9)
+    Err(Refusal::Damaged)
 }
 
-// What a release is to do. Reads only.
+// The region that a release is to give back, if it has pages. Reads only.
 fn cut_of(
     head: Head,
     space: u32,
@@ -74,7 +67,7 @@ fn cut_of(
     table: &[u32],
     stack: &[u32],
     link: &[u32],
-) -> Cut
+) -> Result<Option<usize>, Refusal>
     ensures { CutOf head space page index.now count.now table.now stack.now link.now result }
 {
     let lent = Lengths {
@@ -87,19 +80,16 @@ fn cut_of(
         link: link.len(),
         ram: ANY,
     };
-    let inside = page < head.pages;
-    if !passes(head, lent, space, inside) {
-        return Cut::Refused(check(head, lent, space, inside));
-    }
+    check(head, lent, space, page < head.pages)?;
     let t = all_places(head);
     let a = place(head, space, page);
     if layer::bit_at(index, a) {
         return cut_at(head, count, table, stack, t, a);
     }
-    Cut::Refused(5)
+    Err(Refusal::NoStart)
 }
 
-// The splice: the oldest frame is linked to the pool's first, and the newest is now the first.
+// The splice: the oldest frame is linked to the pool's first, and the newest is the first from here on. Answers the region's pages.
 fn splice(
     h: Head,
     count: &mut [u32],
@@ -107,7 +97,7 @@ fn splice(
     stack: &[u32],
     link: &mut [u32],
     a: usize,
-) -> Spliced
+) -> Out<u32>
     requires { Spliceable h count.old table.now stack.now link.old a }
     ensures { Splices h count.old table.now stack.now link.old a result count.new link.new }
 {
@@ -117,7 +107,7 @@ fn splice(
     let newest = pool::newest(table, stack, a, wide(n));
     count[a] = 0;
     let head = pool::put_back(h, link, newest, wide(oldest), n);
-    Spliced { pages: n, head }
+    Out { head, answer: n }
 }
 
 // Gives back every page of the region that starts at a page, in constant time.
@@ -131,7 +121,7 @@ pub fn release(
     table: &[u32],
     stack: &[u32],
     link: &mut [u32],
-) -> ReleaseOut
+) -> Out<Result<u32, Refusal>>
     ensures by_index { (helper cache ram : List ℕ) →
         Did (machine.release space page)
         (memory head index.now count.old table.now helper stack.now cache link.old ram)
@@ -139,24 +129,21 @@ pub fn release(
         (memory result.head index.now count.new table.now helper stack.now cache link.new ram) }
     ensures fresh_value { result.head.fresh ≡ head.fresh }
 {
-    let todo = cut_of(head, space, page, index, count, table, stack, link);
-    match todo {
-        Cut::Empty => ReleaseOut {
+    match cut_of(head, space, page, index, count, table, stack, link) {
+        Ok(None) => Out {
             head,
-            answer: Released::Pages(0),
+            answer: Ok(0),
         },
-        Cut::At(a) => {
+        Ok(Some(a)) => {
             let done = splice(head, count, table, stack, link, a);
-            let n = done.pages;
-            let next = done.head;
-            ReleaseOut {
-                head: next,
-                answer: Released::Pages(n),
+            Out {
+                head: done.head,
+                answer: Ok(done.answer),
             }
         }
-        Cut::Refused(n) => ReleaseOut {
+        Err(no) => Out {
             head,
-            answer: Released::Refused(n),
+            answer: Err(no),
         },
     }
 }

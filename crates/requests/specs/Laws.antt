@@ -1,10 +1,9 @@
 -- Records as numbers: a slice of numbers is its first records, then the rest.
-use Rattle.std.specs.Prelude.{◌≡◌, refl, List, [], ◌∷◌, ◌++◌, ℕ, zero, suc, ◌+◌, ◌*◌, ◌≤◌, length, drop}
+use Rattle.std.specs.Prelude.{◌≡◌, refl, List, [], ◌∷◌, ◌++◌, ℕ, zero, suc, ◌+◌, ◌*◌, ◌≤◌, length, drop, Result, Ok, Err}
 use Rattle.std.proofs.Common.{ap, arith}
 use Rattle.machine.specs.declared.Region.{Region}
 use Rattle.machine.specs.Answers.{listed_says}
-use Rattle.machine.specs.declared.Listed.{Listed}
-use Rattle.machine.specs.declared.Listed.TheVariants as listed_is
+use Rattle.refusals.specs.declared.Refusal.{Refusal}
 use Rattle.promise.specs.Filled.{records_in, records_filled}
 use Rattle.requests.specs.Codes.{encoded}
 use Rattle.requests.specs.Requests.{region_numbers}
@@ -27,7 +26,7 @@ records_numbers (suc n) (a ∷ b ∷ c ∷ ws) h =
     rw e (ap (λ (xs : List ℕ). a ∷ b ∷ c ∷ xs) (records_numbers n ws (omega arith)))
 
 -- how many records a list tells of is all that its numbers say of them
-pub listed_numbers : (a : Listed) (rs : List Region) → length rs ≡ records_filled a
+pub listed_numbers : (a : Result ℕ Refusal) (rs : List Region) → length rs ≡ records_filled a
     → encoded (listed_says a (records_in (records_filled a) [])) ≡ encoded (listed_says a rs)
-listed_numbers (listed_is.Regions n) rs e = rw (records_length n [], e)
-listed_numbers (listed_is.Refused k) rs e = refl
+listed_numbers (Ok n) rs long = rw (records_length n [], long)
+listed_numbers (Err e) rs long = refl

@@ -6,13 +6,13 @@ ghost use Rattle.machine.specs.Answers.{done_says, touched_says, looked_says, re
 ghost use Rattle.machine.specs.Answers.{fullness_says, given_back_says};
 ghost use Rattle.machine.specs.declared.Region.{Region};
 ghost use Rattle.promise.specs.Filled.{records_in, records_filled, bytes_filled};
+ghost use Rattle.refusals.specs.Refusals.{number};
+ghost use Rattle.requests.specs.declared.Reply.TheVariants as reply_is;
 ghost use Rattle.requests.specs.Requests.{replied};
 ghost use Rattle.requests.specs.Codes.{encoded, numbers_of};
 
-use machine::{
-    Copied, Done, Free, Fullness, GivenBack, Listed, Looked, MapWritten, PageCall, Released,
-    Touched, Translated,
-};
+use machine::{Looked, PageCall, RefusedAfter, Touched};
+use refusals::Refusal;
 
 // A call with its numbers. Read, write and the two calls with a map have all of the byte buffer, list all of the records.
 #[derive(Clone, Copy)]
@@ -58,105 +58,90 @@ pub struct Answer {
 
 // ---- the answer of each kind of call as a reply
 
-pub fn of_done(a: Done) -> Reply
-    ensures { (buffer records : List ℕ) → replied result buffer records ≡ done_says a }
+fn refused(no: Refusal) -> Reply
+    ensures { result ≡ reply_is.Refused (number no) }
 {
-    match a {
-        Done::Ok => Reply::Done,
-        Done::Refused(n) => Reply::Refused(n),
-    }
+    Reply::Refused(no.number())
 }
 
-pub fn of_touched(a: Touched) -> Reply
+fn refused_after(no: RefusedAfter) -> Reply
+    ensures { result ≡ reply_is.RefusedAfter (number no.refusal) no.words }
+{
+    Reply::RefusedAfter(no.refusal.number(), no.words)
+}
+
+pub fn of_done(a: Result<(), Refusal>) -> Reply
+    ensures { (buffer records : List ℕ) → replied result buffer records ≡ done_says a }
+{
+    a.map_or_else(refused, |()| Reply::Done)
+}
+
+pub fn of_touched(a: Result<Touched, RefusedAfter>) -> Reply
     ensures { (buffer records : List ℕ) → replied result buffer records ≡ touched_says a }
 {
     match a {
-        Touched::Old(f) => Reply::Old(f),
-        Touched::New(f, w) => Reply::New(f, w),
-        Touched::Refused(n, w) => Reply::RefusedAfter(n, w),
+        Ok(Touched::Old(f)) => Reply::Old(f),
+        Ok(Touched::New(f, w)) => Reply::New(f, w),
+        Err(no) => refused_after(no),
     }
 }
 
-pub fn of_looked(a: Looked) -> Reply
+pub fn of_looked(a: Result<Looked, RefusedAfter>) -> Reply
     ensures { (buffer records : List ℕ) → replied result buffer records ≡ looked_says a }
 {
     match a {
-        Looked::Resident(f) => Reply::Resident(f),
-        Looked::Absent(w) => Reply::Absent(w),
-        Looked::Refused(n, w) => Reply::RefusedAfter(n, w),
+        Ok(Looked::Resident(f)) => Reply::Resident(f),
+        Ok(Looked::Absent(w)) => Reply::Absent(w),
+        Err(no) => refused_after(no),
     }
 }
 
-pub fn of_released(a: Released) -> Reply
+pub fn of_released(a: Result<u32, Refusal>) -> Reply
     ensures { (buffer records : List ℕ) → replied result buffer records ≡ released_says a }
 {
-    match a {
-        Released::Pages(n) => Reply::Pages(n),
-        Released::Refused(n) => Reply::Refused(n),
-    }
+    a.map_or_else(refused, Reply::Pages)
 }
 
-pub fn of_given_back(a: GivenBack) -> Reply
+pub fn of_given_back(a: Result<(), Refusal>) -> Reply
     ensures { (buffer records : List ℕ) → replied result buffer records ≡ given_back_says a }
 {
-    match a {
-        GivenBack::Done => Reply::Handed,
-        GivenBack::Refused(n) => Reply::Refused(n),
-    }
+    a.map_or_else(refused, |()| Reply::Handed)
 }
 
-pub fn of_free(a: Free) -> Reply
+pub fn of_free(a: Result<u32, Refusal>) -> Reply
     ensures { (buffer records : List ℕ) → replied result buffer records ≡ free_says a }
 {
-    match a {
-        Free::Frames(n) => Reply::Frames(n),
-        Free::Refused(n) => Reply::Refused(n),
-    }
+    a.map_or_else(refused, Reply::Frames)
 }
 
-pub fn of_translated(a: Translated) -> Reply
+pub fn of_translated(a: Result<usize, Refusal>) -> Reply
     ensures { (buffer records : List ℕ) → replied result buffer records ≡ translated_says a }
 {
-    match a {
-        Translated::At(p) => Reply::At(p),
-        Translated::Refused(n) => Reply::Refused(n),
-    }
+    a.map_or_else(refused, Reply::At)
 }
 
-pub fn of_copied(a: Copied) -> Reply
+pub fn of_copied(a: Result<(), Refusal>) -> Reply
     ensures { (buffer records : List ℕ) → replied result buffer records ≡ copied_says a buffer }
 {
-    match a {
-        Copied::Copied => Reply::Bytes,
-        Copied::Refused(k) => Reply::Refused(k),
-    }
+    a.map_or_else(refused, |()| Reply::Bytes)
 }
 
-pub fn of_listed(a: Listed) -> Reply
+pub fn of_listed(a: Result<u32, Refusal>) -> Reply
     ensures { (buffer records : List ℕ) → replied result buffer records ≡ listed_says a (records_in (records_filled a) records) }
 {
-    match a {
-        Listed::Regions(n) => Reply::Regions(n),
-        Listed::Refused(k) => Reply::Refused(k),
-    }
+    a.map_or_else(refused, Reply::Regions)
 }
 
-pub fn of_written(a: MapWritten) -> Reply
+pub fn of_written(a: Result<u32, Refusal>) -> Reply
     ensures { (buffer records : List ℕ) → replied result buffer records ≡ map_written_says a (take (bytes_filled a) buffer) }
 {
-    match a {
-        MapWritten::Bytes(n) => Reply::Map(n),
-        MapWritten::Refused(k) => Reply::Refused(k),
-    }
+    a.map_or_else(refused, Reply::Map)
 }
 
-pub fn of_fullness(a: Fullness) -> Reply
-    ensures { (buffer records : List ℕ) → replied result buffer records ≡ fullness_says a }
+pub fn of_fullness(full: Result<u32, Refusal>) -> Reply
+    ensures { (buffer records : List ℕ) → replied result buffer records ≡ fullness_says full }
 {
-    match a {
-        Fullness::Pages(n) => Reply::Pages(n),
-        Fullness::Refused(k) => Reply::Refused(k),
-    }
+    full.map_or_else(refused, Reply::Pages)
 }
 
 // ---- a reply as numbers
@@ -171,12 +156,7 @@ fn numbers(kind: u32, value: u64, words: u32) -> Answer
 fn there(k: u32, n: usize) -> u64
     ensures { (buffer : List ℕ) → length buffer ≡ n → length (take k buffer) ≡ result }
 {
-    let all = n as u64;
-    let some = k as u64;
-    if all < some {
-        return all;
-    }
-    some
+    u64::from(k).min(n as u64)
 }
 
 // A reply with a byte buffer of n bytes.
@@ -185,15 +165,15 @@ pub fn encode(reply: Reply, n: usize) -> Answer
 {
     match reply {
         Reply::Done => numbers(16, 0, 0),
-        Reply::Old(f) => numbers(17, f as u64, 0),
-        Reply::New(f, w) => numbers(18, f as u64, w),
-        Reply::Resident(f) => numbers(19, f as u64, 0),
+        Reply::Old(f) => numbers(17, u64::from(f), 0),
+        Reply::New(f, w) => numbers(18, u64::from(f), w),
+        Reply::Resident(f) => numbers(19, u64::from(f), 0),
         Reply::Absent(w) => numbers(20, 0, w),
-        Reply::Pages(n) => numbers(21, n as u64, 0),
-        Reply::Frames(n) => numbers(22, n as u64, 0),
+        Reply::Pages(n) => numbers(21, u64::from(n), 0),
+        Reply::Frames(n) => numbers(22, u64::from(n), 0),
         Reply::At(p) => numbers(23, p as u64, 0),
         Reply::Bytes => numbers(24, n as u64, 0),
-        Reply::Regions(n) => numbers(25, n as u64, 0),
+        Reply::Regions(n) => numbers(25, u64::from(n), 0),
         Reply::Map(k) => numbers(26, there(k, n), 0),
         Reply::Refused(k) => numbers(k, 0, 0),
         Reply::RefusedAfter(k, w) => numbers(k, 0, w),
@@ -203,69 +183,69 @@ pub fn encode(reply: Reply, n: usize) -> Answer
 
 // ---- the answer of each kind of call as numbers
 
-pub fn encode_done(a: Done) -> Answer
+pub fn encode_done(a: Result<(), Refusal>) -> Answer
     ensures { numbers_of result ≡ encoded (done_says a) }
 {
     encode(of_done(a), 0)
 }
 
-pub fn encode_touched(a: Touched) -> Answer
+pub fn encode_touched(a: Result<Touched, RefusedAfter>) -> Answer
     ensures { numbers_of result ≡ encoded (touched_says a) }
 {
     encode(of_touched(a), 0)
 }
 
-pub fn encode_looked(a: Looked) -> Answer
+pub fn encode_looked(a: Result<Looked, RefusedAfter>) -> Answer
     ensures { numbers_of result ≡ encoded (looked_says a) }
 {
     encode(of_looked(a), 0)
 }
 
-pub fn encode_released(a: Released) -> Answer
+pub fn encode_released(a: Result<u32, Refusal>) -> Answer
     ensures { numbers_of result ≡ encoded (released_says a) }
 {
     encode(of_released(a), 0)
 }
 
-pub fn encode_given_back(a: GivenBack) -> Answer
+pub fn encode_given_back(a: Result<(), Refusal>) -> Answer
     ensures { numbers_of result ≡ encoded (given_back_says a) }
 {
     encode(of_given_back(a), 0)
 }
 
-pub fn encode_free(a: Free) -> Answer
+pub fn encode_free(a: Result<u32, Refusal>) -> Answer
     ensures { numbers_of result ≡ encoded (free_says a) }
 {
     encode(of_free(a), 0)
 }
 
-pub fn encode_translated(a: Translated) -> Answer
+pub fn encode_translated(a: Result<usize, Refusal>) -> Answer
     ensures { numbers_of result ≡ encoded (translated_says a) }
 {
     encode(of_translated(a), 0)
 }
 
 // A read into a buffer of n bytes.
-pub fn encode_copied(a: Copied, n: usize) -> Answer
+pub fn encode_copied(a: Result<(), Refusal>, n: usize) -> Answer
     ensures { (buffer : List ℕ) → length buffer ≡ n → numbers_of result ≡ encoded (copied_says a buffer) }
 {
     encode(of_copied(a), n)
 }
 
-pub fn encode_listed(a: Listed) -> Answer
+pub fn encode_listed(a: Result<u32, Refusal>) -> Answer
     ensures { (records : List Region) → length records ≡ records_filled a → numbers_of result ≡ encoded (listed_says a records) }
 {
     encode(of_listed(a), 0)
 }
 
 // A map into a buffer of n bytes.
-pub fn encode_written(a: MapWritten, n: usize) -> Answer
+pub fn encode_written(a: Result<u32, Refusal>, n: usize) -> Answer
     ensures { (buffer : List ℕ) → length buffer ≡ n → numbers_of result ≡ encoded (map_written_says a (take (bytes_filled a) buffer)) }
 {
     encode(of_written(a), n)
 }
 
-pub fn encode_fullness(a: Fullness) -> Answer
+pub fn encode_fullness(a: Result<u32, Refusal>) -> Answer
     ensures { numbers_of result ≡ encoded (fullness_says a) }
 {
     encode(of_fullness(a), 0)

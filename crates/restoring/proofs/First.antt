@@ -25,6 +25,7 @@ use Rattle.promise.specs.Within.{Within}
 use Rattle.laws.specs.Refusals.{Long}
 use Rattle.founding.specs.Laws.{Once, length_laid, excess_laid, pooled_laid}
 use Rattle.founding.specs.declared.Laid.{Laid}
+use Rattle.std.specs.Prelude.{Option, IfSome}
 use Rattle.founding.specs.Founding.{LaidIs, LowFrames}
 use Rattle.filling.specs.Partial.{partial}
 use Rattle.filling.specs.Stands.{Stands}
@@ -116,7 +117,7 @@ module _ (m : State) (s : Sound m) where
           ram_is = refl;
         }
 
-    pub first_fills : (r : Laid) → LaidIs link (all_frames (map_words m)) r link' → h'.first ≡ r.first → h'.many ≡ m.sizes.frames → h'.fresh ≡ h'.frames
+    pub first_fills : (r : Option Laid) → LaidIs link (all_frames (map_words m)) r link' → IfSome r (λ l. h'.first ≡ l.first) → h'.many ≡ m.sizes.frames → h'.fresh ≡ h'.frames
         → Stands (partial m 0 0) (memory h' index' count table helper stack cache link' m.ram)
         × Within m.sizes (memory h index count table helper stack cache link m.ram) (memory h' index' count table helper stack cache link' m.ram)
     first_fills r l first many fresh = go (all_frames (map_words m)) refl l
@@ -126,14 +127,15 @@ module _ (m : State) (s : Sound m) where
 
         go : (xs : List ℕ) → all_frames (map_words m) ≡ xs → LaidIs link xs r link' → Stands (partial m 0 0) after × Within m.sizes before after
         go [] e k = absurd (omega (arith, some_frames, frames_many m s, ap length e))
-        go (x ∷ xs) e (a, b, c, d) =
+        go (x ∷ xs) e (a, d) =
+            let b : h'.first ≡ x = subst (λ (o : Option Laid). IfSome o (λ l. h'.first ≡ l.first)) a first in
             let low = subst (λ (ys : List ℕ). Each 0 (λ f. f < m.sizes.frames) ys) e frames_low in
             let inside : Each 0 (λ f. f < length link) (x ∷ xs) = λ j q. omega (arith, low j q, lent.link refl) in
             let once : Once (x ∷ xs) = subst Once e frames_once in
             let whole : (g : ℕ → ℕ) → sum g (x ∷ xs) ≡ sum g (tabulate (λ f. f) m.sizes.frames) = λ g. sym (ap (sum g) e) ∙ frames_whole m s g in
             let count_is : h'.many ≡ suc (length xs) = many ∙ sym (frames_many m s) ∙ ap length e in
             let pooled : Pooled h' link' (x ∷ xs) =
-            subst (λ (y : List ℕ). Pooled h' y (x ∷ xs)) (sym d) (pooled_laid h' link x xs (first ∙ b) count_is fresh once inside) in
+            subst (λ (y : List ℕ). Pooled h' y (x ∷ xs)) (sym d) (pooled_laid h' link x xs b count_is fresh once inside) in
             let is : partial m 0 0 ≡ base (x ∷ xs) = none_done m s ∙ ap base (sym (file_order m s) ∙ e) in
             let same : lengths after ≡ lengths before =
             ap₂ (λ (i l : ℕ).

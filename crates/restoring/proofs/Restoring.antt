@@ -1,8 +1,7 @@
 -- The three steps together, for any state that the file describes.
 use mathlib.Core.Path.{◌≡◌, refl, sym, ap, ◌∙◌, subst}
 use mathlib.Core.List.{List, [], ◌++◌}
-use Prim.Native.Nat.{ℕ, ◌*◌, ◌≤◌, ◌<◌}
-use native.Mathlib.Omega.{arith}
+use Prim.Native.Nat.{ℕ, ◌*◌, ◌≤◌}
 use lib.ListN.{length}
 use Rattle.words.specs.Words.{words_in}
 use Rattle.machine.specs.Machine.{Sizes, places, State}
@@ -12,6 +11,7 @@ use Rattle.machine.proofs.Laws.Sizes.{fit}
 use Rattle.memory.specs.Memory.{Memory, memory}
 use Rattle.memory.specs.declared.Head.{Head}
 use Rattle.promise.specs.Holds.{Holds}
+use Rattle.std.specs.Prelude.{Option, IfSome}
 use Rattle.promise.specs.Within.{Within}
 use Rattle.laws.specs.Refusals.{check_size_passes}
 use Rattle.walking.specs.Rows.{Bodied}
@@ -37,10 +37,11 @@ pub record Reads (m : State) (file : List ℕ) (h : Head) (index count table hel
   pub pages_are : P ≡ h.pages
 
 -- its starts marked and its frames linked: index, links and head after that
-pub record Begun (file : List ℕ) (h : Head) (index link : List ℕ) (S P : ℕ) (index' link' : List ℕ) (r : Laid) (h' : Head) : Type 0 where
+pub record Begun (file : List ℕ) (h : Head) (index link : List ℕ) (S P : ℕ) (index' link' : List ℕ) (r : Option Laid) (f : ℕ) (h' : Head) : Type 0 where
   pub marked : Marked (S * P) (starts_in P (words_in file) 0 S) index index'
   pub laid : LaidIs link (held_frames (words_in file) 0 S ++ part_in (words_in file) S) r link'
-  pub linked : AllLinked h r.first h'
+  pub first : IfSome r (λ l. f ≡ l.first)
+  pub linked : AllLinked h f h'
 
 module _ {m : State} {file : List ℕ} {h : Head} {index count table helper stack cache link : List ℕ} {S P : ℕ}
     (x : Reads m file h index count table helper stack cache link S P) where
@@ -59,10 +60,7 @@ module _ {m : State} {file : List ℕ} {h : Head} {index count table helper stac
   pub low : LowFrames (length link) (words_in file) S
   low = rw (S-is, x.founded.words_are) (low_frames m x.founded.sound (length link) (x.founded.lent.link refl))
 
-  pub some_link : 0 < length link
-  some_link = omega (arith, (fit m.sizes x.founded.sound.sizes_ok_lem).some_frames, x.founded.lent.link refl)
-
-  module _ {index' link' : List ℕ} {r : Laid} {h' : Head} (y : Begun file h index link S P index' link' r h') where
+  module _ {index' link' : List ℕ} {r : Option Laid} {f : ℕ} {h' : Head} (y : Begun file h index link S P index' link' r f h') where
     abbrev before : Memory
     before = memory h index count table helper stack cache link m.ram
 
@@ -88,7 +86,7 @@ module _ {m : State} {file : List ℕ} {h : Head} {index count table helper stac
         let frames : h.frames ≡ m.sizes.frames = ap (λ (z : Sizes). z.frames) H.sizes_are in
         first_fills m F.sound h h' index count table helper stack cache link index' link' H F.lent (y.linked.sizes ∙ H.sizes_are)
         (marks_done m F.sound m.ram index index' room H.index_is marked_so) y.marked.size marked_so.excess
-        r laid_so y.linked.first (y.linked.many ∙ frames) y.linked.fresh
+        r laid_so (rw y.linked.first y.first) (y.linked.many ∙ frames) y.linked.fresh
 
     pub can : CanSpaces (memory h' [] count table helper stack cache link' []) P (words_in file) 0 S
     can =

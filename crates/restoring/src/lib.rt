@@ -16,15 +16,11 @@ use memory::Head;
 fn linked(h: Head, first: u32) -> Head
     ensures { AllLinked h first result }
 {
-    let page = h.page;
     Head {
-        spaces: h.spaces,
-        pages: h.pages,
-        frames: h.frames,
-        page,
         first,
         many: h.frames,
         fresh: h.frames,
+        ..h
     }
 }
 
@@ -52,8 +48,8 @@ pub fn restore(
     let spaces = wide(head.spaces);
     let pages = wide(head.pages);
     mark_all(bytes, spaces, pages, index);
-    let laid = lay_all(bytes, spaces, link);
-    let next = linked(head, laid.first);
+    let first = lay_all(bytes, spaces, link).map_or(0, |laid| laid.first);
+    let next = linked(head, first);
     fill_all(
         bytes, spaces, pages, next, count, table, helper, stack, cache, link,
     )

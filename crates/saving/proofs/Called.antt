@@ -1,18 +1,21 @@
 -- The whole call: what its tests say of the memory, and the promise in each case.
 use mathlib.Core.Path.{◌≡◌, refl, sym, ap, ◌∙◌}
-use mathlib.Core.Bool.{Bool, true, false, not, ◌&&◌, true≢false}
+use mathlib.Core.Bool.{Bool, true, false, ◌&&◌, true≢false}
 use mathlib.Core.List.{List}
+use Rattle.std.specs.Prelude.{Ok, Err}
 use Prim.Native.Nat.{ℕ, ◌+◌, ◌*◌, ◌≤◌, ◌<◌}
 use native.Mathlib.Nat.{sub-zero}
 use native.Mathlib.Omega.{arith}
 use borrow.Author.Tests.{lt-ltb}
 use lib.Dec.{eqb, leb}
 use lib.ListN.{length}
-use Rattle.sequence.specs.Tests.{failed, held}
 use Rattle.extent.specs.Sizes.{lowest_size}
 use Rattle.machine.specs.Machine.{places, sizes_ok, first_refusal}
 use Rattle.machine.proofs.Laws.Sizes.{both, fit}
-use Rattle.machine.specs.declared.MapWritten.TheVariants.{Bytes, Refused}
+use Rattle.refusals.specs.declared.Refusal.{Refusal}
+use Rattle.refusals.specs.declared.Refusal.TheVariants.{Damaged, ShortFile}
+use Rattle.refusals.specs.Refusals.{number}
+use Rattle.refusals.proofs.Laws.{not_none}
 use Rattle.memory.specs.Memory.{Memory, sizes_of}
 use Rattle.promise.specs.Did.{frames_left}
 use Rattle.laws.specs.Models.{release_lengths, check_of}
@@ -35,30 +38,30 @@ space_checked k true e =
     rw (e, lt-ltb 0 k.head.spaces f.some_spaces)
 space_checked k false e = rw e
 
-module _ (k : Memory) {no : ℕ} (checked : no ≡ check_of k.head (release_lengths k) 0 true) where
-  pub refused_first : (file : List ℕ) → (no ≡ 0 → ⊥) → Saves k file (Refused 1) file
-  refused_first file d = go (saveable k) refl
+module _ (k : Memory) where
+  pub refused_first : (file : List ℕ) {e : Refusal} → number e ≡ check_of k.head (release_lengths k) 0 true → Saves k file (Err e) file
+  refused_first file {e} checked = go (saveable k) refl
     where
-      go : (b : Bool) → saveable k ≡ b → Saves k file (Refused 1) file
-      go true e = absurd (d (checked ∙ space_checked k true e))
-      go false e =
+      go : (b : Bool) → saveable k ≡ b → Saves k file (Err e) file
+      go true is = absurd (not_none e (checked ∙ space_checked k true is))
+      go false is =
           record {
-            unfit = λ _. record { answer = refl; kept = refl };
-            damaged = λ ok. absurd (not_both ok e);
-            short = λ ok. absurd (not_both ok e);
-            saved = λ ok. absurd (not_both ok e);
+            unfit = λ _. record { answer = checked ∙ space_checked k false is; kept = refl };
+            damaged = λ ok. absurd (not_both ok is);
+            short = λ ok. absurd (not_both ok is);
+            saved = λ ok. absurd (not_both ok is);
           }
 
-  module _ (passes : no ≡ 0) where
+  module _ (checked : ◌≡◌ {A = ℕ} 0 (check_of k.head (release_lengths k) 0 true)) where
     passed : CheckPassed k.head (release_lengths k) 0 true
-    passed = ready k.head (release_lengths k) 0 true (sym checked ∙ passes)
+    passed = ready k.head (release_lengths k) 0 true (sym checked)
 
     is_saveable : saveable k ≡ true
     is_saveable = go (saveable k) refl
       where
         go : (b : Bool) → saveable k ≡ b → b ≡ true
         go true e = refl
-        go false e = absurd (let z : ◌≡◌ {A = ℕ} 0 1 = sym passes ∙ checked ∙ space_checked k false e in omega arith)
+        go false e = absurd (let z : ◌≡◌ {A = ℕ} 0 1 = checked ∙ space_checked k false e in omega arith)
 
     module _ {t : ℕ} (t-is : t ≡ places (sizes_of k.head)) where
       pub walk_all : Walkable k.index k.count 0 t
@@ -83,9 +86,9 @@ module _ (k : Memory) {no : ℕ} (checked : no ≡ check_of k.head (release_leng
           unfolding adds_up
           adds_told = told ∙ rw pairs_are
 
-          pub refused_damaged : (file : List ℕ) → not v ≡ true → Saves k file (Refused 9) file
+          pub refused_damaged : (file : List ℕ) → v ≡ false → Saves k file (Err Damaged) file
           refused_damaged file h =
-              let e = failed adds_told h in
+              let e = sym adds_told ∙ h in
               record {
                 unfit = λ no. absurd (not_both is_saveable no);
                 damaged = λ _ _. record { answer = refl; kept = refl };
@@ -93,9 +96,9 @@ module _ (k : Memory) {no : ℕ} (checked : no ≡ check_of k.head (release_leng
                 saved = λ _ ok. absurd (not_both ok e);
               }
 
-          module _ (left : not v ≡ false) where
+          module _ (left : v ≡ true) where
             adds_up_lem : adds_up k ≡ true
-            adds_up_lem = held adds_told left
+            adds_up_lem = sym adds_told ∙ left
 
             pub fresh_low : k.head.fresh ≤ k.head.frames
             fresh_low = (adds k adds_up_lem).fresh_fits
@@ -114,7 +117,7 @@ module _ (k : Memory) {no : ℕ} (checked : no ≡ check_of k.head (release_leng
                     pairs_are,
                   )
 
-              pub refused_short : (file : List ℕ) → length file < bytes → Saves k file (Refused 13) file
+              pub refused_short : (file : List ℕ) → length file < bytes → Saves k file (Err ShortFile) file
               refused_short file l =
                   record {
                     unfit = λ no. absurd (not_both is_saveable no);
@@ -134,11 +137,11 @@ module _ (k : Memory) {no : ℕ} (checked : no ≡ check_of k.head (release_leng
                   omega (arith, (adds k adds_up_lem).all_frames_lem, pairs_are, tallied.few_regions, f.few_frames, f.few_spaces)
 
               pub saved_whole : (file : List ℕ) {file' : List ℕ} → bytes ≤ length file → file' ≡ put_words file 0 (saved_words k)
-                  → Saves k file (Bytes bytes) file'
+                  → Saves k file (Ok bytes) file'
               saved_whole file h e =
                   record {
                     unfit = λ no. absurd (not_both is_saveable no);
                     damaged = λ _ no. absurd (not_both adds_up_lem no);
                     short = λ _ _ l. absurd (omega (arith, bytes_are));
-                    saved = λ _ _ fits. record { answer = ap Bytes bytes_are; stored = e ∙ put_file file (saved_words k) fits };
+                    saved = λ _ _ fits. record { answer = ap Ok bytes_are; stored = e ∙ put_file file (saved_words k) fits };
                   }

@@ -3,7 +3,7 @@ use mathlib.Core.Path.{◌≡◌}
 use mathlib.Core.Bool.{Bool, true, false, cond}
 use mathlib.Core.List.{List}
 use Prim.Native.Nat.{ℕ, zero, suc, ◌+◌, ◌-◌, ◌*◌, ◌≤◌, ◌<◌}
-use native.Mathlib.Omega.{arith}
+use Rattle.std.proofs.Common.{arith, Fits, w32}
 use Rattle.layer.specs.Words.{bit_at}
 use Rattle.machine.specs.State.{until_start}
 use Rattle.memory.specs.Memory.{at}
@@ -23,7 +23,7 @@ module _ (index : List ℕ) where
       go true few = omega arith
       go false few = omega arith
 
-  few_counts : (count : List ℕ) → ((q : ℕ) → at count q < 4294967296) → (p n : ℕ) → counts_in index count p n ≤ 4294967296 * n
+  few_counts : (count : List ℕ) → ((q : ℕ) → Fits w32 (at count q)) → (p n : ℕ) → counts_in index count p n ≤ 4294967296 * n
   few_counts count fits p zero = omega arith
   few_counts count fits p (suc n) = go (bit_at index p) (few_counts count fits (suc p) n)
     where
@@ -80,7 +80,7 @@ module _ {index count : List ℕ} {lo end : ℕ} where
           pairs_are = omega (arith, t.pairs_are, sum_next (bit_at index) (many index count) (many_none index count) end a next l e);
         }
 
-    module _ (w : Walkable index count lo end) (fits : (q : ℕ) → at count q < 4294967296) where
+    module _ (w : Walkable index count lo end) (fits : (q : ℕ) → Fits w32 (at count q)) where
       pub tally_fits : (regions ≤ 262144) × (pairs ≤ 1125899906842624)
       tally_fits = (
         omega (arith, t.regions_are, few_starts index lo (end - lo), w.few),

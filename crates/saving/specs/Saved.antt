@@ -1,5 +1,5 @@
 -- What the tables of any memory tell, as the map file of document 02, W-202, has it: total, a word past a table's end is 0.
-use Rattle.std.specs.Prelude.{◌≡◌, Bool, true, false, cond, ◌&&◌, List, [], ◌∷◌, ◌++◌, ℕ, zero, suc, ◌+◌, ◌-◌, ◌*◌, ◌≤◌, ◌<◌, eqb, leb, length, drop}
+use Rattle.std.specs.Prelude.{◌≡◌, Bool, true, false, cond, ◌&&◌, List, [], ◌∷◌, ◌++◌, ℕ, zero, suc, ◌+◌, ◌-◌, ◌*◌, ◌≤◌, ◌<◌, eqb, leb, length, drop, Result, Ok}
 use Rattle.sequence.specs.Lists.{tabulate}
 use Rattle.sequence.specs.Sums.{sum, sum_from}
 use Rattle.words.specs.Words.{bytes_of}
@@ -7,8 +7,8 @@ use Rattle.layer.specs.Words.{bit_at}
 use Rattle.machine.specs.Machine.{every_buffer, places, sizes_ok, enough}
 use Rattle.machine.specs.State.{until_start}
 use Rattle.machine.specs.Map.{Entry, Block, body_words, Part, file_words}
-use Rattle.machine.specs.declared.MapWritten.{MapWritten}
-use Rattle.machine.specs.declared.MapWritten.TheVariants.{Bytes, Refused}
+use Rattle.refusals.specs.declared.Refusal.{Refusal}
+use Rattle.refusals.specs.Refusals.{refusal}
 use Rattle.memory.specs.Memory.{Memory, at, sizes_of}
 use Rattle.memory.specs.declared.Head.{Head}
 use Rattle.promise.specs.Did.{frames_left}
@@ -94,17 +94,17 @@ saveable k = sizes_ok (sizes_of k.head) && enough every_buffer (sizes_of k.head)
 -- ---- what a writing promises on any memory
 
 -- a refusal, and nothing stored
-pub record NotSaved (number : ℕ) (file : List ℕ) (r : MapWritten) (file' : List ℕ) : Type 0 where
-  pub answer : r ≡ Refused number
+pub record NotSaved (number : ℕ) (file : List ℕ) (r : Result ℕ Refusal) (file' : List ℕ) : Type 0 where
+  pub answer : refusal r ≡ number
   pub kept : file' ≡ file
 
 -- these words and their number of bytes; the rest of the buffer stays
-pub record Written (ws file : List ℕ) (r : MapWritten) (file' : List ℕ) : Type 0 where
-  pub answer : r ≡ Bytes (4 * length ws)
+pub record Written (ws file : List ℕ) (r : Result ℕ Refusal) (file' : List ℕ) : Type 0 where
+  pub answer : r ≡ Ok (4 * length ws)
   pub stored : file' ≡ bytes_of ws ++ drop (4 * length ws) file
 
 -- 1, then 9, then 13, else the file
-pub record Saves (k : Memory) (file : List ℕ) (r : MapWritten) (file' : List ℕ) : Type 0 where
+pub record Saves (k : Memory) (file : List ℕ) (r : Result ℕ Refusal) (file' : List ℕ) : Type 0 where
   pub unfit : saveable k ≡ false → NotSaved 1 file r file'
   pub damaged : saveable k ≡ true → adds_up k ≡ false → NotSaved 9 file r file'
   pub short : saveable k ≡ true → adds_up k ≡ true → length file < 4 * length (saved_words k) → NotSaved 13 file r file'

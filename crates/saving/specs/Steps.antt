@@ -47,11 +47,11 @@ module _ (table stack : List ℕ) (lo : ℕ) where
   entries_all a n = let e : a + n - a ≡ n = omega arith in rw e
 
   -- u and v are the words of the page at place q, the next
-  pub entries_next : {p end q r u v : ℕ} → p < end → q ≡ at stack p → u ≡ q - lo → r ≡ q → v ≡ at table r
-      → Splits (entries_left table stack lo p end) (u ∷ v ∷ []) (entries_left table stack lo (p + 1) end)
+  pub entries_next : {p next end q r u v : ℕ} → p < end → next ≡ p + 1 → q ≡ at stack p → u ≡ q - lo → r ≡ q → v ≡ at table r
+      → Splits (entries_left table stack lo p end) (u ∷ v ∷ []) (entries_left table stack lo next end)
   unfolding entry_words
-  entries_next {p} {end} h place page same frame =
-      record { is = rw (frame, same, page, place) (ap entry_words (rest_next (λ q. entry_at table lo (at stack q)) p end h)) }
+  entries_next {p} {end = end} h on place page same frame =
+      record { is = rw (on, frame, same, page, place) (ap entry_words (rest_next (λ q. entry_at table lo (at stack q)) p end h)) }
 
   pub entries_done : (p end : ℕ) → end ≤ p → entries_left table stack lo p end ≡ []
   unfolding entry_words

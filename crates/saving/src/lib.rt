@@ -19,8 +19,8 @@ ghost use Rattle.saving.specs.Sizes.{body_size, space_size, space_rows, content_
 ghost use Rattle.saving.specs.Asked.{Walkable, Tallied, Listable, Storable};
 
 use checks::{all_places, check, wide};
-use machine::MapWritten;
 use memory::{ANY, Head, Lengths};
+use refusals::Refusal;
 use scanning::next_start;
 use words::put_word;
 
@@ -35,39 +35,24 @@ struct Tally {
 fn word_or(words: &[u32], i: usize) -> u32
     ensures { result ≡ at words.now i }
 {
-    if i < words.len() {
-        return words[i];
-    }
-    0
+    words.get(i).copied().unwrap_or(0)
 }
 
 // The page at place q of the space that begins at place lo; 0 for a place before it.
 fn page_of(q: u32, lo: usize) -> u32
     ensures { result ≡ q - lo }
 {
-    let p = wide(q);
-    if p < lo {
-        return 0;
+    wide(q).saturating_sub(lo) as u32
+}
+
+// Stores words one after another from word `word` on.
+fn put_words<const N: usize>(file: &mut [u8], word: usize, words: [u32; N])
+    requires { Room file.old word words }
+    ensures { Stored file.old word words.entry file.new (word + N) }
+{
+    for (k, w) in words.iter().enumerate() {
+        put_word(file, word + k, *w);
     }
-    (p - lo) as u32
-}
-
-// Stores two words from word `word` on.
-fn put_two(file: &mut [u8], word: usize, a: u32, b: u32)
-    requires { Room file.old word (a ∷ b ∷ []) }
-    ensures { Stored file.old word (a ∷ b ∷ []) file.new (word + 2) }
-{
-    put_word(file, word, a);
-    put_word(file, word + 1, b);
-}
-
-// Stores three words from word `word` on.
-fn put_three(file: &mut [u8], word: usize, a: u32, b: u32, c: u32)
-    requires { Room file.old word (a ∷ b ∷ c ∷ []) }
-    ensures { Stored file.old word (a ∷ b ∷ c ∷ []) file.new (word + 3) }
-{
-    put_two(file, word, a, b);
-    put_word(file, word + 2, c);
 }
 
 // Stores the n pages of the region at a, in the list's order; answers the word after them.
@@ -83,16 +68,12 @@ fn put_entries(
     requires { (a ≤ 262144) × (n < 4294967296) × Room file.old word (entry_words (entries_from table.now stack.now lo a n)) }
     ensures { Stored file.old word (entry_words (entries_from table.now stack.now lo a n)) file.new result }
 {
-    let end = a + n;
-    let mut p = a;
-    let mut to = word;
-    while p < end {
-        let q = word_or(stack, p);
-        put_two(file, to, page_of(q, lo), word_or(table, wide(q)));
-        to += 2;
-        p += 1;
+    for j in 0..n {
+        let q = word_or(stack, a + j);
+        let pair = [page_of(q, lo), word_or(table, wide(q))];
+        put_words(file, word + 2 * j, pair);
     }
-    to
+    word + 2 * n
 }
 
 // Stores the region from place a to before place next; answers the word after it.
@@ -112,7 +93,7 @@ fn put_block(
         (block_words (block_at count.now table.now stack.now lo a next)) file.new result }
 {
     let n = count[a];
-    put_three(file, word, (a - lo) as u32, (next - a) as u32, n);
+    put_words(file, word, [(a - lo) as u32, (next - a) as u32, n]);
     put_entries(file, table, stack, lo, a, wide(n), word + 3)
 }
 
@@ -134,6 +115,7 @@ fn put_body(
 {
     let mut a = next_start(index, lo, end);
     let mut to = word;
+    // A `while`: only the index tells how far the next start is.
     while a < end {
         let next = next_start(index, a + 1, end);
         to = put_block(file, count, table, stack, lo, a, next, to);
@@ -159,14 +141,10 @@ fn put_bodies(
         (bodies (tabulate (space_from index.now count.now table.now stack.now pages) spaces))
         file.new result }
 {
-    let mut i = 0;
-    let mut lo = 0;
     let mut to = word;
-    while i < spaces {
-        let end = lo + pages;
-        to = put_body(file, index, count, table, stack, lo, end, to);
-        lo = end;
-        i += 1;
+    for i in 0..spaces {
+        let lo = i * pages;
+        to = put_body(file, index, count, table, stack, lo, lo + pages, to);
     }
     to
 }
@@ -179,6 +157,7 @@ fn tally_between(index: &[u64], count: &[u32], lo: usize, end: usize) -> Tally
     let mut regions = 0;
     let mut pairs = 0;
     let mut a = next_start(index, lo, end);
+    // A `while`, as in `put_body`; the two share no more than the line that finds the next start.
     while a < end {
         regions += 1;
         pairs += wide(count[a]);
@@ -207,7 +186,7 @@ fn put_row(
     let t = tally_between(index, count, lo, end);
     let pairs = t.pairs;
     let size = 3 * t.regions + 2 * pairs;
-    put_three(file, word, body as u32, size as u32, pairs as u32);
+    put_words(file, word, [body as u32, size as u32, pairs as u32]);
     body + size
 }
 
@@ -220,14 +199,10 @@ fn put_rows(file: &mut [u8], index: &[u64], count: &[u32], pages: usize, spaces:
         (space_rows index.now count.now pages (first_body spaces) 0 spaces) file.new (4 + 3 * spaces) }
     ensures value { result ≡ first_body spaces + sum_from (space_size index.now count.now pages) 0 spaces }
 {
-    let mut i = 0;
-    let mut lo = 0;
     let mut body = 7 + 3 * spaces;
-    while i < spaces {
-        let end = lo + pages;
-        body = put_row(file, index, count, lo, end, body, 4 + 3 * i);
-        lo = end;
-        i += 1;
+    for i in 0..spaces {
+        let lo = i * pages;
+        body = put_row(file, index, count, lo, lo + pages, body, 4 + 3 * i);
     }
     body
 }
@@ -238,15 +213,11 @@ fn put_chain(file: &mut [u8], link: &[u32], first: u32, n: usize, word: usize) -
     ensures { Stored file.old word (chained link.now first n) file.new result }
 {
     let mut f = first;
-    let mut left = n;
-    let mut to = word;
-    while 0 < left {
-        put_word(file, to, f);
+    for k in 0..n {
+        put_word(file, word + k, f);
         f = word_or(link, wide(f));
-        to += 1;
-        left -= 1;
     }
-    to
+    word + n
 }
 
 // Stores the frames that were never used.
@@ -254,12 +225,8 @@ fn put_unused(file: &mut [u8], fresh: u32, frames: u32, word: usize)
     requires { Room file.old word (unused fresh frames) }
     ensures { file.new ≡ put_words file.old word (unused fresh frames) }
 {
-    let mut frame = fresh;
-    let mut to = word;
-    while frame < frames {
-        put_word(file, to, frame);
-        to += 1;
-        frame += 1;
+    for frame in fresh..frames {
+        put_word(file, word + wide(frame - fresh), frame);
     }
 }
 
@@ -268,9 +235,8 @@ fn put_sizes(file: &mut [u8], head: Head)
     requires { (sizes_ok (sizes_of head) ≡ true) × (16 ≤ length file.old) }
     ensures { Stored file.old 0 (head.spaces ∷ head.pages ∷ head.frames ∷ (sizes_of head).page ∷ []) file.new 4 }
 {
-    let page = head.page;
-    put_two(file, 0, head.spaces, head.pages);
-    put_two(file, 2, head.frames, (1usize << page.shift) as u32);
+    let page = 1u32 << head.page.shift;
+    put_words(file, 0, [head.spaces, head.pages, head.frames, page]);
 }
 
 // The frames in the pool.
@@ -286,10 +252,7 @@ fn adds_up(head: Head, pairs: usize) -> bool
     requires { pairs ≤ 1125899906842624 }
     ensures { result ≡ (leb head.fresh head.frames && eqb (pairs + frames_left head) head.frames) }
 {
-    if head.frames < head.fresh {
-        return false;
-    }
-    pairs + free_frames(head) == wide(head.frames)
+    head.fresh <= head.frames && pairs + free_frames(head) == wide(head.frames)
 }
 
 // Stores the contents: the four sizes, a row for each space and one for the pool.
@@ -302,7 +265,7 @@ fn put_contents(file: &mut [u8], head: Head, index: &[u64], count: &[u32])
     put_sizes(file, head);
     let body = put_rows(file, index, count, wide(head.pages), spaces);
     let free = free_frames(head) as u32;
-    put_three(file, 4 + 3 * spaces, body as u32, free, free);
+    put_words(file, 4 + 3 * spaces, [body as u32, free, free]);
 }
 
 // Stores the pool from word `word` on.
@@ -352,7 +315,7 @@ pub fn write_map(
     stack: &[u32],
     link: &[u32],
     file: &mut [u8],
-) -> MapWritten
+) -> Result<u32, Refusal>
     ensures { (helper cache ram : List ℕ) →
         MapDid (memory head index.now count.now table.now helper stack.now cache link.now ram) result
         file.old file.new }
@@ -367,18 +330,17 @@ pub fn write_map(
         link: link.len(),
         ram: ANY,
     };
-    if check(head, lengths, 0, true) != 0 {
-        return MapWritten::Refused(1);
-    }
+    check(head, lengths, 0, true)?;
     let t = tally_between(index, count, 0, all_places(head));
     let pairs = t.pairs;
     if !adds_up(head, pairs) {
-        return MapWritten::Refused(9);
+        return Err(Refusal::Damaged);
     }
     let bytes = 4 * (7 + 3 * wide(head.spaces) + 3 * t.regions + 2 * pairs + free_frames(head));
     if file.len() < bytes {
-        return MapWritten::Refused(13);
+        return Err(Refusal::ShortFile);
     }
+    let length = bytes as u32;
     store(file, head, index, count, table, stack, link);
-    MapWritten::Bytes(bytes as u32)
+    Ok(length)
 }

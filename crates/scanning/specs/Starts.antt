@@ -1,5 +1,5 @@
 -- The first start from a place on: the places passed before it, and what one word of the index tells of them.
-use Rattle.std.specs.Prelude.{◌≡◌, Bool, List, get_or}
+use Rattle.std.specs.Prelude.{◌≡◌, Bool, List, get_or, min}
 use Rattle.std.proofs.Math.Path.{refl, ap}
 use Rattle.std.proofs.Common.{sym, ◌∙◌, true≢false, div-le_self, lt_of_le_of_lt}
 use Rattle.std.proofs.Math.Bool.{true, false, cond}
@@ -134,3 +134,14 @@ module _ (ws : List ℕ) (q : ℕ) where
     found_start =
         let back : q + count_trailing_zeros 64 rest - q ≡ count_trailing_zeros 64 rest = omega arith in
         rest_bit _ (omega arith) (omega (arith, inside)) ∙ ap (bit rest) back ∙ lowest.accepted
+
+    -- cut at `end`, it is the first start from place p on, if none is before q
+    pub found_is : (p end : ℕ) → p ≤ q → q ≤ end → NoneIn (bit_at ws) p q
+        → min end (q + count_trailing_zeros 64 rest) ≡ p + until_start (bit_at ws) p (end - p)
+    found_is p end from to clear =
+        let a = q + count_trailing_zeros 64 rest in
+        let passed = none_more (bit_at ws) clear found_clear in
+        next_is (bit_at ws) p (min end a) end (omega arith) (omega arith) (λ i x y. passed i x (omega arith))
+        (λ h.
+        let here : min end a ≡ a = omega arith in
+        ap (bit_at ws) here ∙ found_start)

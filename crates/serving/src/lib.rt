@@ -4,10 +4,10 @@
 ghost use Rattle.memory.specs.Memory.{memory};
 ghost use Rattle.pages.specs.Serves.{Serves};
 
-use memory::Head;
+use memory::{Head, Out};
 use pager::{free, list, read, read_map, start, translate, write, write_map};
-use pages::{Served, serve_page};
-use requests::Request;
+use pages::serve_page;
+use requests::{Reply, Request};
 
 // Makes the call that is requested.
 pub fn serve(
@@ -23,12 +23,12 @@ pub fn serve(
     cache: &mut [u32],
     link: &mut [u32],
     ram: &mut [u8],
-) -> Served
+) -> Out<Reply>
     ensures { Serves request
         (memory head index.old count.old table.old helper.old stack.old cache.old
         link.old ram.old)
         buffer.old records.old
-        result.reply
+        result.answer
         (memory result.head index.new count.new table.new helper.new stack.new cache.new
         link.new ram.new)
         buffer.new records.new }
@@ -38,9 +38,9 @@ pub fn serve(
             let out = start(head, s, n, f, p, index, count);
             let head = out.head;
             let a = out.answer;
-            Served {
+            Out {
                 head,
-                reply: requests::of_done(a),
+                answer: requests::of_done(a),
             }
         }
         Request::Page(call, i, b) => serve_page(
@@ -48,25 +48,25 @@ pub fn serve(
         ),
         Request::Free => {
             let a = free(head);
-            Served {
+            Out {
                 head,
-                reply: requests::of_free(a),
+                answer: requests::of_free(a),
             }
         }
         Request::Translate(i, x) => {
             let a = translate(head, i, x, index, count, table, helper, stack, cache);
-            Served {
+            Out {
                 head,
-                reply: requests::of_translated(a),
+                answer: requests::of_translated(a),
             }
         }
         Request::Read(i, x) => {
             let a = read(
                 head, i, x, buffer, index, count, table, helper, stack, cache, ram,
             );
-            Served {
+            Out {
                 head,
-                reply: requests::of_copied(a),
+                answer: requests::of_copied(a),
             }
         }
         Request::Write(i, x) => {
@@ -75,23 +75,23 @@ pub fn serve(
             );
             let head = out.head;
             let a = out.answer;
-            Served {
+            Out {
                 head,
-                reply: requests::of_done(a),
+                answer: requests::of_done(a),
             }
         }
         Request::List(i) => {
             let a = list(head, i, records, index, count);
-            Served {
+            Out {
                 head,
-                reply: requests::of_listed(a),
+                answer: requests::of_listed(a),
             }
         }
         Request::WriteMap => {
             let a = write_map(head, index, count, table, stack, link, buffer);
-            Served {
+            Out {
                 head,
-                reply: requests::of_written(a),
+                answer: requests::of_written(a),
             }
         }
         Request::ReadMap => {
@@ -100,9 +100,9 @@ pub fn serve(
             );
             let head = out.head;
             let a = out.answer;
-            Served {
+            Out {
                 head,
-                reply: requests::of_done(a),
+                answer: requests::of_done(a),
             }
         }
     }

@@ -7,7 +7,7 @@ ghost use Rattle.lines.specs.Promise.{CallAnswered, AnswersLine};
 use ahead::{fill, is_beyond};
 use memory::Head;
 pub use parsing::LONGEST_MAP;
-use parsing::{Line, parse};
+use parsing::parse;
 use printing::{say, say_refused};
 use requests::Request;
 use serving::serve;
@@ -48,10 +48,11 @@ fn answer_call(
     let served = serve(
         head, request, bytes, records, index, count, table, helper, stack, cache, link, ram,
     );
-    let next = served.head;
-    let reply = served.reply;
-    let end = say(out, at, reply, bytes, records);
-    Answered { head: next, end }
+    let end = say(out, at, served.answer, bytes, records);
+    Answered {
+        head: served.head,
+        end,
+    }
 }
 
 // Answers a line, after the first `at` bytes of `out`. With LONGEST_MAP bytes in the buffer and 3,072 numbers in the records every line has its
@@ -81,8 +82,7 @@ pub fn answer_line(
         link.new ram.new)
         out.new buffer.new records.new }
 {
-    let said = parse(line);
-    let Line::Call(request, n) = said else {
+    let Some((request, n)) = parse(line) else {
         return Answered {
             head,
             end: say_bad_line(out, at),

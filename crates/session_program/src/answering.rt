@@ -42,7 +42,7 @@ fn end_line(out: &mut [u8], at: usize) -> usize {
     if out.len() <= at {
         return at;
     }
-    out[at] = 10;
+    out[at] = b'\n';
     at + 1
 }
 

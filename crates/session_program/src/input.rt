@@ -18,19 +18,7 @@ fn read_some(stdin: Stdin, room: &mut [u8]) -> usize
     ensures { result ≤ length room.old }
 {
     let mut reader = stdin;
-    match reader.read(room) {
-        Ok(n) => n,
-        Err(_) => 0,
-    }
-}
-
-fn least(a: usize, b: usize) -> usize
-    ensures { (result ≤ a) × (result ≤ b) }
-{
-    if a < b {
-        return a;
-    }
-    b
+    reader.read(room).unwrap_or(0)
 }
 
 // A byte as a word; so its bound is asked for once.
@@ -93,13 +81,11 @@ fn pass_words(input: &[u8], from: usize, stop: usize) -> usize
 fn line_end(input: &[u8], from: usize, n: usize) -> usize
     ensures { from ≤ n → from ≤ result }
 {
-    let stop = least(n, input.len());
-    let mut i = pass_words(input, from, stop);
-    while i < stop {
-        if input[i] == 10 {
+    let stop = n.min(input.len());
+    for i in pass_words(input, from, stop)..stop {
+        if input[i] == b'\n' {
             return i;
         }
-        i += 1;
     }
     n
 }
@@ -152,19 +138,11 @@ pub(crate) fn line_at(input: &[u8], from: usize, n: usize, is_last: bool, is_lon
 
 // Moves the bytes from `from` to before n to the front; answers how many they are.
 fn keep(input: &mut [u8], from: usize, n: usize) -> usize {
-    if n <= from {
-        return 0;
+    let stop = n.min(input.len());
+    if 0 < from && from < stop {
+        input.copy_within(from..stop, 0);
     }
-    if from == 0 {
-        return n;
-    }
-    let stop = least(n, input.len());
-    let mut i = from;
-    while i < stop {
-        input[i - from] = input[i];
-        i += 1;
-    }
-    n - from
+    n.saturating_sub(from)
 }
 
 // What is kept of a line that isn't whole, and whether more of it came than is kept.

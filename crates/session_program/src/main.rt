@@ -5,8 +5,6 @@
 mod answering;
 mod input;
 
-ghost use Rattle.std.specs.Prelude.{◌<◌};
-
 use answering::{Output, answer_lines};
 use input::{keep_rest, read_more};
 use memory::no_start;
@@ -37,9 +35,9 @@ const CLOSED: u8 = 141;
 // Garbage: numbers that could be places or frames.
 fn litter(table: &mut [u32], step: u32) {
     let mut value = step;
-    for i in 0..table.len() {
+    for place in table {
         value = (value % 1_024 * 37 + step % 1_024) % 1_024;
-        table[i] = value;
+        *place = value;
     }
 }
 
@@ -49,16 +47,6 @@ fn lines_end(n: usize, is_last: bool, is_long: bool) -> usize {
         return 1;
     }
     n
-}
-
-fn turns_left(turns: u64, is_written: bool, is_last: bool) -> u64
-    requires { 0 < turns }
-    ensures { result < turns }
-{
-    if is_last || !is_written {
-        return 0;
-    }
-    turns - 1
 }
 
 // Reads, answers the lines that are whole and keeps what is left, until the input ends or answers are lost; a proved loop has to end,
@@ -82,9 +70,7 @@ fn run(
     let mut head = no_start();
     let mut kept = 0;
     let mut is_long = false;
-    let mut output = Output::Open;
-    let mut turns = u64::MAX;
-    while 0 < turns {
+    for _ in 0..u64::MAX {
         let n = read_more(stdin, input, kept);
         let is_last = n == kept;
         let done = answer_lines(
@@ -111,10 +97,11 @@ fn run(
         let rest = keep_rest(input, done.from, n, done.is_long);
         kept = rest.kept;
         is_long = rest.is_long;
-        output = done.output;
-        turns = turns_left(turns, output == Output::Open, is_last);
+        if is_last || done.output != Output::Open {
+            return done.output;
+        }
     }
-    output
+    Output::Open
 }
 
 fn main(rt: HostRuntime) -> ExitCode {

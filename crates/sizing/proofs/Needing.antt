@@ -8,8 +8,9 @@ use lib.Dec.{leb}
 use Rattle.machine.specs.Machine.{Sizes, places, sizes_ok, is_page_size, between}
 use Rattle.machine.specs.Answers.{size as sized, no_size, page_size_says, page_size_for}
 use Rattle.machine.proofs.Laws.Sizes.{fit, some_places}
-use Rattle.machine.specs.declared.MadeSize.{MadeSize}
-use Rattle.machine.specs.declared.MadeSize.TheVariants.{Made, Refused}
+use Rattle.std.specs.Prelude.{Result, Ok, Err}
+use Rattle.refusals.specs.Refusals.{number}
+use Rattle.refusals.specs.declared.Refusal.{Refusal}
 use Rattle.machine.specs.declared.PageSize.{PageSize}
 use Rattle.machine.specs.Machine.{sizes}
 use Rattle.sizing.specs.Needed.{all_needed, needed_for}
@@ -21,18 +22,18 @@ and-false true true false d = refl
 and-false true true true false = refl
 and-false true true true true = refl
 
-module _ (s n f bytes : ℕ) (made : MadeSize) (of : page_size_says made ≡ page_size_for bytes) where
-  pub no_page_size : (k : ℕ) → made ≡ Refused k → 1 ∷ 0 ∷ 0 ∷ 0 ∷ 0 ∷ 0 ∷ [] ≡ needed_for (sizes s n f bytes)
+module _ (s n f bytes : ℕ) (made : Result PageSize Refusal) (of : page_size_says made ≡ page_size_for bytes) where
+  pub no_page_size : (x : Refusal) → made ≡ Err x → 1 ∷ 0 ∷ 0 ∷ 0 ∷ 0 ∷ 0 ∷ [] ≡ needed_for (sizes s n f bytes)
   unfolding needed_for sizes_ok page_size_for
-  no_page_size k e = go (is_page_size bytes) (rw e at of)
+  no_page_size x e = go (is_page_size bytes) (rw e at of)
     where
-      go : (b : Bool) → no_size k ≡ cond b (sized bytes) (no_size 1)
+      go : (b : Bool) → no_size (number x) ≡ cond b (sized bytes) (no_size 1)
           → 1 ∷ 0 ∷ 0 ∷ 0 ∷ 0 ∷ 0 ∷ [] ≡ cond (between 1 64 s && between 1 262144 n && leb (places (sizes s n f bytes)) 262144 && between 1 65536 f && b)
           (all_needed (sizes s n f bytes)) (1 ∷ 0 ∷ 0 ∷ 0 ∷ 0 ∷ 0 ∷ [])
       go true q = absurd (let z : ◌≡◌ {A = ℕ} 0 1 = cc in omega arith)
       go false q = rw (and-false (between 1 64 s) (between 1 262144 n) (leb (places (sizes s n f bytes)) 262144) (between 1 65536 f))
 
-  module _ (p : PageSize) (e : made ≡ Made p) where
+  module _ (p : PageSize) (e : made ≡ Ok p) where
     same_bytes : 2 ^ p.shift ≡ bytes
     unfolding page_size_for
     same_bytes = go (is_page_size bytes) (rw e at of)

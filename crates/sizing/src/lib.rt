@@ -7,7 +7,7 @@ ghost use Rattle.memory.specs.Memory.{sizes_of};
 ghost use Rattle.sizing.specs.Needed.{numbers_of, needed_for, map_room};
 
 use checks::{all_places, index_words, ram_bytes, sizes_ok, wide};
-use machine::{MadeSize, PageSize};
+use machine::PageSize;
 use memory::Head;
 
 // Words of the index, entries of the five tables with one a place, of the frame link, bytes of RAM, and of a map file at most;
@@ -49,7 +49,7 @@ fn map_bytes(h: Head) -> usize
 pub fn needed(spaces: u32, pages: u32, frames: u32, page: u32) -> Needs
     ensures { numbers_of result ≡ needed_for (sizes spaces pages frames page) }
 {
-    let MadeSize::Made(size) = PageSize::of(page) else {
+    let Ok(size) = PageSize::of(page) else {
         return no_sizes();
     };
     let h = Head {

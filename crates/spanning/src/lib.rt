@@ -8,9 +8,9 @@ ghost use Rattle.memory.specs.Memory.{memory};
 ghost use Rattle.promise.specs.Did.{Did};
 ghost use Rattle.faulting.specs.Written.{Spanned};
 
-use machine::Done;
 use mapping::touch_all;
-use memory::{Head, WriteOut};
+use memory::{Head, Out};
+use refusals::Refusal;
 use storing::store;
 use surveying::{all_resident, count_absent, settle};
 
@@ -30,7 +30,7 @@ pub fn write_span(
     cache: &mut [u32],
     link: &mut [u32],
     ram: &mut [u8],
-) -> WriteOut
+) -> Out<Result<(), Refusal>>
     requires { Spanned (memory head index.now count.old table.old helper.old stack.old cache.old link.old ram.old) space address bytes.now
         first pages }
     ensures { Did (machine.write space address bytes.now)
@@ -43,19 +43,19 @@ pub fn write_span(
     let end = first + pages;
     if all_resident(head, space, first, end, count, table, helper, stack, cache) {
         store(head, space, address, bytes, table, ram);
-        return WriteOut {
+        return Out {
             head,
-            answer: Done::Ok,
+            answer: Ok(()),
         };
     }
     let absent = count_absent(head, space, first, end, count, table, helper, stack, cache);
     let short = settle(
         head, space, first, absent, index, count, table, helper, stack, cache,
     );
-    if short != 0 {
-        return WriteOut {
+    if let Err(no) = short {
+        return Out {
             head,
-            answer: Done::Refused(short),
+            answer: Err(no),
         };
     }
     let next = touch_all(
@@ -73,8 +73,8 @@ pub fn write_span(
         ram,
     );
     store(next, space, address, bytes, table, ram);
-    WriteOut {
+    Out {
         head: next,
-        answer: Done::Ok,
+        answer: Ok(()),
     }
 }

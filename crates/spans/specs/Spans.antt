@@ -1,9 +1,19 @@
 -- The refusal in a look's answer.
-use Rattle.std.specs.Prelude.{ℕ}
+use Rattle.std.specs.Prelude.{ℕ, Result, Ok, Err}
 use Rattle.machine.specs.declared.Looked.{Looked}
-use Rattle.machine.specs.declared.Looked.TheVariants.{Resident, Absent, Refused}
+use Rattle.machine.specs.declared.Looked.TheVariants.{Resident, Absent}
+use Rattle.machine.specs.declared.RefusedAfter.{RefusedAfter}
+use Rattle.refusals.specs.Refusals.{number}
+use Rattle.refusals.specs.declared.Refusal.{Refusal}
+use Rattle.refusals.specs.declared.Refusal.TheVariants.{PageAbsent}
 
-abbrev pub absence_of : Looked → ℕ
-absence_of (Resident f) = 0
-absence_of (Absent w) = 10
-absence_of (Refused n w) = n
+-- the frame of a page that was looked up, or why its bytes can't be reached
+abbrev pub frame_seen : Result Looked RefusedAfter → Result ℕ Refusal
+frame_seen (Ok (Resident f)) = Ok f
+frame_seen (Ok (Absent w)) = Err PageAbsent
+frame_seen (Err e) = Err e.refusal
+
+abbrev pub absence_of : Result Looked RefusedAfter → ℕ
+absence_of (Ok (Resident f)) = 0
+absence_of (Ok (Absent w)) = 10
+absence_of (Err e) = number e.refusal

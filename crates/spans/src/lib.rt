@@ -5,21 +5,30 @@ ghost use Rattle.std.specs.Prelude.{◌≡◌, true, ◌+◌, ◌-◌, ◌/◌, 
 ghost use Rattle.machine.specs.Machine.{sizes_ok, space_bytes, places, page_of_address, span_pages};
 ghost use Rattle.machine.specs.Claims.{Address};
 ghost use Rattle.memory.specs.Memory.{at, sizes_of, place_in};
-ghost use Rattle.spans.specs.Spans.{absence_of};
+ghost use Rattle.refusals.specs.Refusals.{refusal};
+ghost use Rattle.spans.specs.Spans.{absence_of, frame_seen};
 
 use checks::{place, wide};
-use machine::Looked;
+use machine::{Looked, RefusedAfter};
 use memory::Head;
+use refusals::Refusal;
 
-// The refusal of a page that was looked up and isn't resident; 0 for one that is.
-pub fn absence(found: Looked) -> u32
-    ensures { result ≡ absence_of found }
+// The frame of a page that was looked up, or why its bytes can't be reached.
+pub fn frame_seen(found: Result<Looked, RefusedAfter>) -> Result<u32, Refusal>
+    ensures { result ≡ frame_seen found }
 {
     match found {
-        Looked::Resident(_) => 0,
-        Looked::Absent(_) => 10,
-        Looked::Refused(n, _) => n,
+        Ok(Looked::Resident(frame)) => Ok(frame),
+        Ok(Looked::Absent(_)) => Err(Refusal::PageAbsent),
+        Err(no) => Err(no.refusal),
     }
+}
+
+// Why the bytes of a page that was looked up can't be reached; nothing is in the way of a resident one's.
+pub fn absence(found: Result<Looked, RefusedAfter>) -> Result<(), Refusal>
+    ensures { refusal result ≡ absence_of found }
+{
+    frame_seen(found).map(|_| ())
 }
 
 // The page of an address of a space.

@@ -1,40 +1,27 @@
--- Start: what begins, and what the whole of a start does, is the model's.
+-- Start: what the whole of a start does is the model's.
 use mathlib.Core.Path.{◌≡◌, refl, sym, ap, ◌∙◌}
 use mathlib.Core.Bool.{true}
-use mathlib.Core.List.{List, ◌++◌}
+use mathlib.Core.List.{List}
 use Prim.Native.Nat.{ℕ}
-use lib.ListN.{length, drop, replicate}
-use Rattle.index.specs.Promise.{Prepared}
-use Rattle.index.specs.declared.Change.{Change}
-use Rattle.machine.specs.Machine.{Answer, refused, start, places}
+use lib.ListN.{length}
+use Rattle.std.specs.Prelude.{Result, Ok, Err}
+use Rattle.refusals.specs.declared.Refusal.{Refusal}
+use Rattle.machine.specs.Machine.{Answer, refused, start}
 use Rattle.machine.specs.Answers.{page_size_says, page_size_for}
 use Rattle.machine.specs.declared.PageSize.{PageSize}
-use Rattle.machine.specs.declared.MadeSize.{MadeSize}
-use Rattle.machine.specs.declared.MadeSize.TheVariants.{Made, Refused}
-use Rattle.memory.specs.Memory.{memory, sizes_of}
+use Rattle.memory.specs.Memory.{memory}
 use Rattle.memory.specs.declared.Head.{Head}
 use Rattle.memory.specs.declared.Lengths.{Lengths}
 use Rattle.promise.specs.Did.{Did}
 use Rattle.laws.specs.Models.{lent_to, check_of}
-use Rattle.starting.specs.Models.{change_says, start_head}
+use Rattle.starting.specs.Models.{start_head}
 use Rattle.laws.specs.Checking.{checked_no, checked_yes, ready}
 use Rattle.starting.proofs.Started.{start_did}
 use Rattle.machine.specs.Machine.{sizes}
 use Rattle.starting.specs.Steps.{Beginnable, BeginsAs}
 use Rattle.starting.specs.Models.{Starts}
 
-pub begins : (next : Head) (t : ℕ) (ws count : List ℕ) (d : Change) (a : Answer) (ws' count' : List ℕ) → t ≡ places (sizes_of next)
-    → Prepared t ws d ws' → count' ≡ replicate t 0 ++ drop t count → a ≡ change_says d → BeginsAs next ws count next a ws' count'
-begins next t ws count d a ws' count' et prepared cleared answer h table helper stack cache link ram =
-    record {
-      change = d;
-      words = ws';
-      prepared = rw et at prepared;
-      answer_is = answer;
-      after_is = ap (λ (xs : List ℕ). memory next ws' xs table helper stack cache link ram) (rw et at cleared);
-    }
-
--- ---- the whole call, from the page size made of the bytes asked for
+-- the whole call, from the page size made of the bytes asked for
 
 pub start_ready : (next : Head) (n : ℕ) (count : List ℕ) (l : Lengths) (number : ℕ) → l ≡ lent_to n (length count) → number ≡ check_of next l 0 true → number ≡ 0
     → Beginnable next count
@@ -42,20 +29,20 @@ start_ready next n count l number lent check pass =
     let y = ready next l 0 true (sym check ∙ pass) in
     record { sizes_ok_lem = y.sizes_ok_lem; count_long = rw lent at (y.lent.count refl) }
 
-module _ (head : Head) (s n f bytes : ℕ) (ws count : List ℕ) (made : MadeSize) (sized : page_size_says made ≡ page_size_for bytes) where
+module _ (head : Head) (s n f bytes : ℕ) (ws count : List ℕ) (made : Result PageSize Refusal) (sized : page_size_says made ≡ page_size_for bytes) where
   -- whatever tables are there
   abbrev DidStart : Head → Answer → List ℕ → List ℕ → Type 0
   DidStart h' a ws' count' =
       (table helper stack cache link ram : List ℕ)
       → Did (start (sizes s n f bytes)) (memory head ws count table helper stack cache link ram) a (memory h' ws' count' table helper stack cache link ram)
 
-  pub start_no_size : (k : ℕ) (h' : Head) (a : Answer) → made ≡ Refused k → (h' ≡ head) × (a ≡ refused 1) → DidStart h' a ws count
-  start_no_size k h' a e r table helper stack cache link ram =
+  pub start_no_size : (e : Refusal) (h' : Head) (a : Answer) → made ≡ Err e → (h' ≡ head) × (a ≡ refused 1) → DidStart h' a ws count
+  start_no_size x h' a e r table helper stack cache link ram =
       start_did s n f bytes _ a _
       (rw (← sized, e)
       (record { answer_is = r.1; same = ap (λ (x : Head). memory x ws count table helper stack cache link ram) r.0 }))
 
-  module _ (size : PageSize) (made_is : made ≡ Made size) (l : Lengths) (number : ℕ) (lent : l ≡ lent_to (length ws) (length count))
+  module _ (size : PageSize) (made_is : made ≡ Ok size) (l : Lengths) (number : ℕ) (lent : l ≡ lent_to (length ws) (length count))
       (check : number ≡ check_of (start_head s n f size.shift) l 0 true) where
     abbrev next : Head
     next = start_head s n f size.shift

@@ -7,12 +7,11 @@ use Rattle.std.proofs.Math.ListN.{drop as dropped, get_or-append}
 use Rattle.std.proofs.lemmas.List.{length-replicate}
 use Rattle.sequence.specs.Lists.{tabulate, get_or_same}
 use Rattle.places.specs.Places.{size}
-use Rattle.index.specs.Answers as index
-use Rattle.index.specs.declared.Change.TheVariants as change_is
+use Rattle.refusals.specs.Refusals.{answered}
 use Rattle.index.specs.Words.{index_of}
 use Rattle.index.specs.Laws.{length_index, index_front, index_ext}
-use Rattle.machine.specs.Machine.{Sizes, sizes, places, sizes_ok, first_refusal, is_start, region}
-use Rattle.machine.specs.Machine.{uses, start, asked, Answer, done, begun, accepted, answer, after}
+use Rattle.machine.specs.Machine.{Sizes, places, sizes_ok, first_refusal, is_start, region}
+use Rattle.machine.specs.Machine.{uses, start, asked, Answer, done, begun, accepted}
 use Rattle.machine.proofs.Laws.Kept.{sound_begun}
 use Rattle.memory.specs.Memory.{Memory, memory, sizes_of, lengths}
 use Rattle.memory.specs.declared.Head.{Head}
@@ -86,7 +85,7 @@ module _ (s n f shift : ℕ) (k : Memory) where
       let w = start_admitted (sizes_of k.head) given (lengths k) pass in
       let t = places given in
       let checked = check_size_passes given w.sizes_ok_lem (length k.index) (w.lent.index refl) in
-      let done_is : a ≡ done = d.answer_is ∙ ap change_says (d.prepared.answer ∙ ap (λ n. index.unless change_is.Refused n change_is.Done) checked) in
+      let done_is : a ≡ done = d.answer_is ∙ ap change_says (d.prepared.answer ∙ ap (λ n. answered n tt) checked) in
       let after_is : k' ≡ prepared =
       d.after_is
       ∙ ap (λ ws. memory (start_head s n f shift) ws (replicate t 0 ++ dropped t k.count) k.table k.helper k.stack k.cache k.link k.ram)

@@ -1,7 +1,6 @@
 -- What start does, on lists.
-use Rattle.std.specs.Prelude.{◌≡◌, true, List, ◌++◌, ℕ, ◌^◌, drop, replicate}
-use Rattle.index.specs.declared.Change.{Change}
-use Rattle.index.specs.declared.Change.TheVariants as change_is
+use Rattle.std.specs.Prelude.{◌≡◌, true, List, ◌++◌, ℕ, ◌^◌, drop, replicate, Result, Ok, Err}
+use Rattle.refusals.specs.declared.Refusal.{Refusal}
 use Rattle.index.specs.Promise.{Prepared}
 use Rattle.machine.specs.Machine.{places, Answer, done, refused}
 use Rattle.machine.specs.Answers.{SizeAnswer, size as size_is, no_size, page_size_for}
@@ -10,9 +9,9 @@ use Rattle.memory.specs.declared.Head.{Head}
 use Rattle.laws.specs.Models.{check_of, Refuses, Checked, mark_lengths}
 
 -- what a change of the index answers for the call that made it
-abbrev pub change_says : Change → Answer
-change_says change_is.Done = done
-change_says (change_is.Refused n) = refused 9
+abbrev pub change_says : Result (Unit {0}) Refusal → Answer
+change_says (Ok u) = done
+change_says (Err e) = refused 9
 
 -- the head of a start: no frame used yet
 abbrev pub start_head : ℕ → ℕ → ℕ → ℕ → Head
@@ -20,7 +19,7 @@ start_head s n f shift =
     record { spaces = s; pages = n; frames = f; page = record { shift = shift }; first = 0; many = 0; fresh = 0 }
 
 pub record Starts (h : Head) (k : Memory) (a : Answer) (k' : Memory) : Type 0 where
-  pub change : Change
+  pub change : Result (Unit {0}) Refusal
   pub words : List ℕ
   pub prepared : Prepared (places (sizes_of h)) k.index change words
   pub answer_is : a ≡ change_says change

@@ -10,11 +10,12 @@ ghost use Rattle.promise.specs.Did.{Did};
 ghost use Rattle.laws.specs.Models.{lent_to};
 ghost use Rattle.starting.specs.Models.{change_says};
 ghost use Rattle.starting.specs.Steps.{Beginnable, BeginsAs};
+ghost use Rattle.refusals.specs.Refusals.{number};
 
 use checks::{all_places, check};
-use index::Change;
-use machine::{Done, MadeSize, PageSize};
-use memory::{ANY, Head, Lengths, StartOut};
+use machine::PageSize;
+use memory::{ANY, Head, Lengths, Out};
+use refusals::Refusal;
 
 // The lengths of a call that is lent the index and the resident counts.
 pub fn lent(index: usize, count: usize) -> Lengths
@@ -32,23 +33,13 @@ pub fn lent(index: usize, count: usize) -> Lengths
     }
 }
 
-// What a change of the index answers for the start that made it.
-fn changed(c: Change) -> Done
-    ensures { done_says result ≡ change_says c }
-{
-    match c {
-        Change::Done => Done::Ok,
-        Change::Refused(_) => Done::Refused(9),
-    }
-}
-
 // A refused start gives the head back as it was.
-pub fn not_started(head: Head, no: u32) -> StartOut
-    ensures { (result.head ≡ head) × (done_says result.answer ≡ machine.refused no) }
+pub fn not_started(head: Head, no: Refusal) -> Out<Result<(), Refusal>>
+    ensures { (result.head ≡ head) × (done_says result.answer ≡ machine.refused (number no)) }
 {
-    StartOut {
+    Out {
         head,
-        answer: Done::Refused(no),
+        answer: Err(no),
     }
 }
 
@@ -57,25 +48,18 @@ fn clear_counts(count: &mut [u32], t: usize)
     requires { t ≤ length count.old }
     ensures { count.new ≡ replicate t 0 ++ dropped t count.old }
 {
-    let mut i = 0;
-    while i < t {
-        count[i] = 0;
-        i += 1;
-    }
+    count[..t].fill(0);
 }
 
 // Prepares the index and the resident counts, and nothing else.
-pub fn begin(next: Head, index: &mut [u64], count: &mut [u32]) -> StartOut
+pub fn begin(next: Head, index: &mut [u64], count: &mut [u32]) -> Out<Result<(), Refusal>>
     requires { Beginnable next count.old }
     ensures { BeginsAs next index.old count.old result.head (done_says result.answer) index.new count.new }
 {
     let t = all_places(next);
-    let done = index::prepare(index, t);
+    let answer = index::prepare(index, t).or(Err(Refusal::Damaged));
     clear_counts(count, t);
-    StartOut {
-        head: next,
-        answer: changed(done),
-    }
+    Out { head: next, answer }
 }
 
 // Sets the sizes: no starts, every frame in the pool. Five tables and the RAM may hold anything.
@@ -87,15 +71,15 @@ pub fn start(
     page: u32,
     index: &mut [u64],
     count: &mut [u32],
-) -> StartOut
+) -> Out<Result<(), Refusal>>
     ensures { (table helper stack cache link ram : List ℕ) →
         Did (machine.start (sizes spaces pages frames page))
         (memory head index.old count.old table helper stack cache link ram)
         (done_says result.answer)
         (memory result.head index.new count.new table helper stack cache link ram) }
 {
-    let MadeSize::Made(size) = PageSize::of(page) else {
-        return not_started(head, 1);
+    let Ok(size) = PageSize::of(page) else {
+        return not_started(head, Refusal::BadSizes);
     };
     let next = Head {
         spaces,
@@ -106,8 +90,7 @@ pub fn start(
         many: 0,
         fresh: 0,
     };
-    let no = check(next, lent(index.len(), count.len()), 0, true);
-    if no != 0 {
+    if let Err(no) = check(next, lent(index.len(), count.len()), 0, true) {
         return not_started(head, no);
     }
     begin(next, index, count)

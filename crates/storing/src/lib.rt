@@ -39,6 +39,7 @@ pub fn store(head: Head, space: u32, address: usize, bytes: &[u8], table: &[u32]
 {
     let n = bytes.len();
     let mut done = 0;
+    // By hand, since no range or chunk of the library steps by parts that differ in size.
     while done < n {
         let x = address + done;
         let next = done + part(head, x, n - done);

@@ -1,3 +1,2 @@
-pub mod Residing
 pub mod Counting
 pub mod Settling

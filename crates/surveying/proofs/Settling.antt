@@ -1,4 +1,8 @@
 -- From the look at a span's first page and the free frames to the number that settles a write.
+use Rattle.std.specs.Prelude.{Result, Ok, Err}
+use Rattle.machine.specs.declared.RefusedAfter.{RefusedAfter}
+use Rattle.refusals.specs.Refusals.{number, refusal}
+use Rattle.refusals.specs.declared.Refusal.{Refusal}
 use mathlib.Core.Path.{◌≡◌, refl, sym, ap, ◌∙◌}
 use mathlib.Core.Bool.{true, false}
 use mathlib.Core.Logic.{◌⊎◌, ⊎_elim, inl, inr}
@@ -13,8 +17,6 @@ use Rattle.machine.specs.Machine.{absence, is_outside, accepted}
 use Rattle.machine.specs.Answers.{looked_says, free_says}
 use Rattle.machine.specs.declared.Looked.{Looked}
 use Rattle.machine.specs.declared.Looked.TheVariants as looked_is
-use Rattle.machine.specs.declared.Free.{Free}
-use Rattle.machine.specs.declared.Free.TheVariants as free_is
 use Rattle.memory.specs.Memory.{Memory, memory, sizes_of, lengths}
 use Rattle.memory.specs.declared.Head.{Head}
 use Rattle.promise.specs.Holds.{Holds}
@@ -30,25 +32,25 @@ use Rattle.surveying.specs.Regions.{outside_first}
 -- ---- one look
 
 -- what a look's answer says of the page
-absence_is : (m : State) (p : ℕ) (found : Looked) → Found m p found → absence_of found ≡ absence (page_of m p)
+absence_is : (m : State) (p : ℕ) (found : Result Looked RefusedAfter) → Found m p found → absence_of found ≡ absence (page_of m p)
 absence_is m p found e = go found (page_of m p) e
   where
-    go : (found : Looked) (g : Page) → looked_says found ≡ look_page (words_at m p) g → absence_of found ≡ absence g
-    go (looked_is.Resident f) outside e = absurd (let z : ◌≡◌ {A = ℕ} 0 1 = cc in omega arith)
-    go (looked_is.Resident f) (unmapped a) e = absurd (let z : ◌≡◌ {A = ℕ} 0 1 = cc in omega arith)
-    go (looked_is.Resident f) (mapped a g) e = refl
-    go (looked_is.Absent v) outside e = absurd (let z : ◌≡◌ {A = ℕ} 0 1 = cc in omega arith)
-    go (looked_is.Absent v) (unmapped a) e = refl
-    go (looked_is.Absent v) (mapped a g) e = absurd (let z : ◌≡◌ {A = ℕ} 0 1 = cc in omega arith)
-    go (looked_is.Refused n v) outside e = let same : n ≡ 4 = cc in same
-    go (looked_is.Refused n v) (unmapped a) e = absurd (let z : ◌≡◌ {A = ℕ} 0 1 = cc in omega arith)
-    go (looked_is.Refused n v) (mapped a g) e = absurd (let z : ◌≡◌ {A = ℕ} 0 1 = cc in omega arith)
+    go : (found : Result Looked RefusedAfter) (g : Page) → looked_says found ≡ look_page (words_at m p) g → absence_of found ≡ absence g
+    go (Ok (looked_is.Resident f)) outside e = absurd (let z : ◌≡◌ {A = ℕ} 0 1 = cc in omega arith)
+    go (Ok (looked_is.Resident f)) (unmapped a) e = absurd (let z : ◌≡◌ {A = ℕ} 0 1 = cc in omega arith)
+    go (Ok (looked_is.Resident f)) (mapped a g) e = refl
+    go (Ok (looked_is.Absent v)) outside e = absurd (let z : ◌≡◌ {A = ℕ} 0 1 = cc in omega arith)
+    go (Ok (looked_is.Absent v)) (unmapped a) e = refl
+    go (Ok (looked_is.Absent v)) (mapped a g) e = absurd (let z : ◌≡◌ {A = ℕ} 0 1 = cc in omega arith)
+    go (Err x) outside e = let same : number x.refusal ≡ 4 = cc in same
+    go (Err x) (unmapped a) e = absurd (let z : ◌≡◌ {A = ℕ} 0 1 = cc in omega arith)
+    go (Err x) (mapped a g) e = absurd (let z : ◌≡◌ {A = ℕ} 0 1 = cc in omega arith)
 
-refused_late : (z : Sizes) (i b : ℕ) (l : Lent) (r : Looked) → Later z (look i b l) (looked_says r) → (absence_of r ≡ 0 → ⊥) → (absence_of r ≡ 10 → ⊥)
+refused_late : (z : Sizes) (i b : ℕ) (l : Lent) (r : Result Looked RefusedAfter) → Later z (look i b l) (looked_says r) → (absence_of r ≡ 0 → ⊥) → (absence_of r ≡ 10 → ⊥)
     → Among (4 ∷ 9 ∷ []) (absence_of r)
-refused_late z i b l (looked_is.Resident f) g d t = absurd (d refl)
-refused_late z i b l (looked_is.Absent w) g d t = absurd (t refl)
-refused_late z i b l (looked_is.Refused n w) g d t = g.0
+refused_late z i b l (Ok (looked_is.Resident f)) g d t = absurd (d refl)
+refused_late z i b l (Ok (looked_is.Absent w)) g d t = absurd (t refl)
+refused_late z i b l (Err x) g d t = g.0
 
 -- a look's number is one of a write
 of_write : (n : ℕ) → Among (4 ∷ 9 ∷ []) n → Among (4 ∷ 8 ∷ 9 ∷ []) n
@@ -65,6 +67,11 @@ page_outside outside d t = (refl, refl)
 page_outside (unmapped a) d t = absurd (t refl)
 page_outside (mapped a f) d t = absurd (d refl)
 
+-- a look that is not refused is of a page that has a region
+pub in_region : (found : Result Looked RefusedAfter) (l : Looked) → found ≡ Ok l → (absence_of found ≡ 0) ⊎ (absence_of found ≡ 10)
+in_region found (looked_is.Resident f) is = inl (ap absence_of is)
+in_region found (looked_is.Absent w) is = inr (ap absence_of is)
+
 -- ---- the first page
 
 module _ (h : Head) (i first absent : ℕ) (index count table helper stack cache : List ℕ) where
@@ -74,7 +81,7 @@ module _ (h : Head) (i first absent : ℕ) (index count table helper stack cache
   -- the look at it, and the number of its absence
   pub record LookedUp (no : ℕ) : Type 0 where
     pub ready : Ready h i first index count table helper stack cache
-    pub found : Looked
+    pub found : Result Looked RefusedAfter
     pub looks : (link ram : List ℕ) → Did (look i first) (lent link ram) (looked_says found) (lent link ram)
     pub no_is : no ≡ absence_of found
 
@@ -87,7 +94,7 @@ module _ (h : Head) (i first absent : ℕ) (index count table helper stack cache
         look-of.no_is
         ∙ absence_is m _ look-of.found (page_found m (lent link ram) H i first (passes_look link ram) look-of.found (look-of.looks link ram))
 
-    pub settled_outside : (no ≡ 0 → ⊥) → (no ≡ 10 → ⊥) → Settled h i first absent index count table helper stack cache no
+    settled_outside : (no ≡ 0 → ⊥) → (no ≡ 10 → ⊥) → Settled h i first absent index count table helper stack cache no
     settled_outside d t =
         let late = looked_later i first (lent [] []) _ (passes_look [] []) (look-of.looks [] []) in
         record {
@@ -100,9 +107,25 @@ module _ (h : Head) (i first absent : ℕ) (index count table helper stack cache
               rw (outside_first m i first n pos l, s.0) (e ∙ s.1);
         }
 
+    -- a look that is refused settles it
+    pub settled_refused : (y : RefusedAfter) → look-of.found ≡ Err y → no ≡ number y.refusal → Settled h i first absent index count table helper stack cache no
+    settled_refused y is told_as =
+        let late = rw is at (looked_later i first (lent [] []) _ (passes_look [] []) (look-of.looks [] [])) in
+        settled_outside (λ e. low (late.0) (told_as) e) (λ e. ten (late.0) (told_as) e)
+      where
+        low : Among (4 ∷ 9 ∷ []) (number y.refusal) → no ≡ number y.refusal → no ≡ 0 → ⊥
+        low (inl e) t z = omega arith
+        low (inr (inl e)) t z = omega arith
+        low (inr (inr bad)) t z = absurd bad
+
+        ten : Among (4 ∷ 9 ∷ []) (number y.refusal) → no ≡ number y.refusal → no ≡ 10 → ⊥
+        ten (inl e) t z = omega arith
+        ten (inr (inl e)) t z = omega arith
+        ten (inr (inr bad)) t z = absurd bad
+
     -- ---- a first page that has a region, and the free frames
 
-    module _ (in_region : (no ≡ 0) ⊎ (no ≡ 10)) (r : Free)
+    module _ (in_region : (no ≡ 0) ⊎ (no ≡ 10)) (r : Result ℕ Refusal)
         (frees : (link ram : List ℕ) → Did (λ _. free) (lent link ram) (free_says r) (lent link ram)) where
       passes_free : asked (sizes_of h) free ≡ 0
       unfolding asked
@@ -128,16 +151,16 @@ module _ (h : Head) (i first absent : ℕ) (index count table helper stack cache
                 rw (inside, ← so-many inside) (is m (pool_is link ram m H));
           }
 
-      pub settled_short : (n : ℕ) → r ≡ free_is.Frames n → n < absent → Settled h i first absent index count table helper stack cache 8
+      pub settled_short : (n : ℕ) → r ≡ Ok n → n < absent → Settled h i first absent index count table helper stack cache 8
       settled_short n e l =
           settled_if 8 (λ _. inr (inl refl)) (λ m p. let same : length m.pool ≡ n = cc in rw (same, lt-ltb n absent l))
 
-      pub settled_enough : (n : ℕ) → r ≡ free_is.Frames n → absent ≤ n → Settled h i first absent index count table helper stack cache 0
+      pub settled_enough : (n : ℕ) → r ≡ Ok n → absent ≤ n → Settled h i first absent index count table helper stack cache 0
       settled_enough n e l =
           settled_if 0 (λ d. absurd (d refl)) (λ m p. let same : length m.pool ≡ n = cc in rw (same, le-ltb n absent l))
 
       -- a pool that no call left so
-      pub settled_broken : (n : ℕ) → r ≡ free_is.Refused n → Settled h i first absent index count table helper stack cache n
-      settled_broken n e =
+      pub settled_broken : (y : Refusal) → r ≡ Err y → Settled h i first absent index count table helper stack cache (number y)
+      settled_broken y e =
           let a = rw (passes_free, e) at (frees [] []).asks in
-          settled_if n (λ _. inr (inr a.0)) (λ m p. absurd (let z : ◌≡◌ {A = ℕ} 0 1 = cc in omega arith))
+          settled_if (number y) (λ _. inr (inr a.0)) (λ m p. absurd (let z : ◌≡◌ {A = ℕ} 0 1 = cc in omega arith))

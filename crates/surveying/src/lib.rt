@@ -5,12 +5,12 @@
 ghost use Rattle.std.specs.Prelude.{List, ℕ, ◌≤◌, ◌<◌};
 ghost use Rattle.lookup.specs.Ready.{Lookable};
 ghost use Rattle.surveying.specs.Surveys.{AllResident, Whether, Counted, Settled};
+ghost use Rattle.refusals.specs.Refusals.{refusal};
 
 use lookup::{frame_of, look_checked};
-use machine::Free;
 use memory::Head;
 use pool::free;
-use spans::absence;
+use refusals::Refusal;
 
 // Whether the pages from first to before end are all resident: then nothing is to be settled and nothing to be mapped.
 pub fn all_resident(
@@ -29,13 +29,11 @@ pub fn all_resident(
     ensures { Whether
         (AllResident head space first end count.now table.now helper.now stack.now cache.now) result }
 {
-    let mut page = first;
-    while page < end {
+    for page in first..end {
         let found = frame_of(head, space, page as u32, count, table, helper, stack, cache);
         if head.frames <= found {
             return false;
         }
-        page += 1;
     }
     true
 }
@@ -58,19 +56,17 @@ pub fn count_absent(
         cache.now result }
 {
     let mut absent = 0;
-    let mut page = first;
-    while page < end {
+    for page in first..end {
         let frame = frame_of(head, space, page as u32, count, table, helper, stack, cache);
         if head.frames <= frame {
             absent += 1;
         }
-        page += 1;
     }
     absent
 }
 
-// The number that settles a write whose span begins at page `first` and has so many absent pages, before its first touch: that of the
-// first page, or 8 where the pool has fewer frames than pages are absent; 0 for none. If the first page has a region, all have.
+// What settles a write whose span begins at page `first` and has so many absent pages, before its first touch: the first page's
+// refusal, or that the pool has fewer frames than pages are absent. If the first page has a region, all have.
 pub fn settle(
     head: Head,
     space: u32,
@@ -82,12 +78,12 @@ pub fn settle(
     helper: &[u32],
     stack: &[u32],
     cache: &[u32],
-) -> u32
+) -> Result<(), Refusal>
     requires { (first < head.pages) × Lookable head space index.now count.now table.now helper.now stack.now cache.now }
     ensures { Settled head space first absent index.now count.now table.now helper.now
-        stack.now cache.now result }
+        stack.now cache.now (refusal result) }
 {
-    let no = absence(look_checked(
+    let found = look_checked(
         head,
         space,
         first as u32,
@@ -97,19 +93,12 @@ pub fn settle(
         helper,
         stack,
         cache,
-    ));
-    if no != 0 {
-        if no != 10 {
-            return no;
-        }
+    );
+    if let Err(no) = found {
+        return Err(no.refusal);
     }
-    match free(head) {
-        Free::Frames(n) => {
-            if n < absent {
-                return 8;
-            }
-            0
-        }
-        Free::Refused(n) => n,
+    if free(head)? < absent {
+        return Err(Refusal::PoolEmpty);
     }
+    Ok(())
 }

@@ -10,22 +10,23 @@ ghost use Rattle.promise.specs.Did.{Did};
 ghost use Rattle.spans.specs.Parts.{Frame};
 ghost use Rattle.paging.specs.Models.{cleared_for};
 
-use checks::{check, passes};
+use checks::check;
 use clearing::clear_frame;
-use lookup::see;
-use machine::Touched;
-use memory::{Head, Lengths, TouchOut};
+use lookup::{Sight, see};
+use machine::{RefusedAfter, Touched};
+use memory::{Head, Lengths, Out};
 use paging::touch_seen;
 
 // Clears the frame of a page that was mapped.
-fn clear_new(head: Head, answer: Touched, ram: &mut [u8])
-    requires { (f w : ℕ) → answer ≡ New f w → Frame head f ram.old }
+fn clear_new(head: Head, answer: Result<Touched, RefusedAfter>, ram: &mut [u8])
+    requires { (f w : ℕ) → answer ≡ Ok (New f w) → Frame head f ram.old }
     ensures { ram.new ≡ cleared_for head answer ram.old }
 {
-    match answer {
-        Touched::New(frame, _) => clear_frame(head, frame, ram),
-        Touched::Old(_) => {}
-        Touched::Refused(_, _) => {}
+    let Ok(touched) = answer else {
+        return;
+    };
+    if let Touched::New(frame, _) = touched {
+        clear_frame(head, frame, ram);
     }
 }
 
@@ -43,7 +44,7 @@ pub fn touch(
     cache: &mut [u32],
     link: &mut [u32],
     ram: &mut [u8],
-) -> TouchOut
+) -> Out<Result<Touched, RefusedAfter>>
     ensures { Did (machine.touch space page)
         (memory head index.now count.old table.old helper.old stack.old cache.old
         link.old ram.old)
@@ -61,14 +62,20 @@ pub fn touch(
         link: link.len(),
         ram: ram.len(),
     };
-    let inside = page < head.pages;
-    if !passes(head, lent, space, inside) {
-        return TouchOut {
+    if let Err(no) = check(head, lent, space, page < head.pages) {
+        return Out {
             head,
-            answer: Touched::Refused(check(head, lent, space, inside), 0),
+            answer: Err(RefusedAfter::from(no)),
         };
     }
     let seen = see(head, space, page, index, count, table, helper, stack, cache);
+    // the short way of a page that is there, with nothing to plan, to clear or to store
+    if let Sight::Mapped(frame) = seen {
+        return Out {
+            head,
+            answer: Ok(Touched::Old(frame)),
+        };
+    }
     let out = touch_seen(
         head, space, page, seen, count, table, helper, stack, cache, link,
     );

@@ -9,9 +9,9 @@ ghost use Rattle.promise.specs.Did.{Did};
 
 use checks::{address_inside, check};
 use lookup::look_checked;
-use machine::{Looked, Translated};
 use memory::{ANY, Head, Lengths};
-use spans::{absence, page_of, ram_place};
+use refusals::Refusal;
+use spans::{frame_seen, page_of, ram_place};
 
 // The place in RAM of an address.
 pub fn translate(
@@ -24,7 +24,7 @@ pub fn translate(
     helper: &[u32],
     stack: &[u32],
     cache: &[u32],
-) -> Translated
+) -> Result<usize, Refusal>
     ensures { (link ram : List ℕ) →
         Did (machine.translate space address)
         (memory head index.now count.now table.now helper.now stack.now cache.now link ram)
@@ -42,10 +42,7 @@ pub fn translate(
         link: ANY,
         ram: ANY,
     };
-    let no = check(head, lent, space, address_inside(head, address));
-    if no != 0 {
-        return Translated::Refused(no);
-    }
+    check(head, lent, space, address_inside(head, address))?;
     let page = page_of(head, address);
     let found = look_checked(
         head,
@@ -58,8 +55,6 @@ pub fn translate(
         stack,
         cache,
     );
-    let Looked::Resident(frame) = found else {
-        return Translated::Refused(absence(found));
-    };
-    Translated::At(ram_place(head, frame, address))
+    let frame = frame_seen(found)?;
+    Ok(ram_place(head, frame, address))
 }

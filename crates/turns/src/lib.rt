@@ -4,7 +4,7 @@
 ghost use Rattle.std.specs.Prelude.{◌≡◌, length};
 ghost use Rattle.memory.specs.Memory.{memory};
 ghost use Rattle.requests.specs.Codes.{numbers_of};
-ghost use Rattle.decoding.specs.Calls.{decoded};
+ghost use Rattle.plays.specs.Codes.{code_at};
 ghost use Rattle.plays.specs.Plays.{PlayedOne};
 
 use decoding::{Code, decode};
@@ -17,19 +17,13 @@ fn put(reply: &mut [u64], a: Answer)
     requires { length reply.old ≡ 3 }
     ensures { reply.new ≡ numbers_of a }
 {
-    reply[0] = a.kind as u64;
-    reply[1] = a.value;
-    reply[2] = a.words as u64;
+    reply.copy_from_slice(&[u64::from(a.kind), a.value, u64::from(a.words)]);
 }
 
 // Plays the call that five numbers are, if they are one.
 pub fn play_one(
     head: Head,
-    kind: u64,
-    a: u64,
-    b: u64,
-    c: u64,
-    d: u64,
+    code: &[u64; 5],
     reply: &mut [u64],
     bytes: &mut [u8],
     records: &mut [u32],
@@ -43,7 +37,7 @@ pub fn play_one(
     ram: &mut [u8],
 ) -> Head
     requires { length reply.old ≡ 3 }
-    ensures { PlayedOne (decoded kind a b c d (length bytes.old) (length records.old))
+    ensures { PlayedOne (code_at code.now (length bytes.old) (length records.old) 0)
         (memory head index.old count.old table.old helper.old stack.old cache.old
         link.old ram.old)
         bytes.old records.old
@@ -51,27 +45,15 @@ pub fn play_one(
         ram.new)
         reply.new bytes.new records.new }
 {
-    let code = decode(kind, a, b, c, d, bytes.len(), records.len());
-    let Code::Call(request, parts) = code else {
-        put(
-            reply,
-            Answer {
-                kind: 0,
-                words: 0,
-                value: 0,
-            },
-        );
+    let Some(Code { request, parts }) = decode(code, bytes.len(), records.len()) else {
+        reply.fill(0);
         return head;
     };
-    let from = parts.from;
-    let to = parts.to;
-    let first = parts.first;
-    let last = parts.last;
     let out = serve(
         head,
         request,
-        &mut bytes[from..to],
-        &mut records[first..last],
+        &mut bytes[parts.from..parts.to],
+        &mut records[parts.first..parts.last],
         index,
         count,
         table,
@@ -81,8 +63,6 @@ pub fn play_one(
         link,
         ram,
     );
-    let next = out.head;
-    let told = out.reply;
-    put(reply, encode(told, to - from));
-    next
+    put(reply, encode(out.answer, parts.to - parts.from));
+    out.head
 }

@@ -6,34 +6,36 @@ use Prim.Native.Nat.{ℕ, ◌+◌, ◌-◌, ◌*◌, ◌/◌, ◌≤◌, ◌<◌
 use native.Mathlib.Omega.{arith}
 use borrow.Author.Tests.{eq-eqb, ne_eqb, lt-ltb, le-ltb, le-leb, lt-leb}
 use lib.Dec.{eqb}
+use Rattle.std.proofs.Math.Decide.{dec_le}
 use lib.ListN.{length, get_or}
 use lib.Seq.{slice, slice-cons, slice_empty}
 use Rattle.machine.specs.Map.{whole_from, rest_in}
 use Rattle.machine.specs.MapRules.{all_within, tiled, fine_from, fine_body}
-use Rattle.distinct.specs.Distinct.{picked, Reach}
-use Rattle.distinct.specs.Laws.{picked_first, picked_none}
-use Rattle.walking.specs.declared.Front.TheVariants.{Region}
+use Rattle.distinct.specs.Distinct.{picked, picked_on}
+use Rattle.distinct.specs.Laws.{picked_next, picked_end}
+use Rattle.std.specs.Prelude.{Some}
+use Rattle.walking.specs.declared.Front.{Front}
 use Rattle.walking.specs.Walking.{Fronts}
 use Rattle.walking.specs.Laws.{start_at, length_at, count_at, next_at, head_ok, fine_cut, fine_short, fine_false, fine_next}
 
 -- ---- pages
 
-module _ (lo hi : ℕ) (ws : List ℕ) (at left p : ℕ) (left-some : 0 < left) (p-is : p ≡ get_or ws at 0) where
-  pub too_low : p < lo → all_within lo hi (picked ws at 2 left) ≡ false
+-- a page outside ends it, one inside leaves those after it
+module _ (lo hi : ℕ) (ws : List ℕ) (from n k p : ℕ) (some : k < n) (p-is : p ≡ get_or ws (from + 2 * k) 0) where
+  pub page_outside : (lo ≤ p → hi ≤ p) → all_within lo hi (picked_on ws from 2 n k) ≡ false
   unfolding all_within
-  too_low h = rw (picked_first ws at 2 left p left-some p-is, lt-leb lo p h)
+  page_outside h = rw (picked_next ws from 2 n k p some p-is) (elim (dec_le lo p) [
+    | yes l ↦ rw (le-leb lo p l, le-ltb p hi (h l))
+    | no l ↦ rw (lt-leb lo p (omega arith))
+  ])
 
-  pub too_high : lo ≤ p → hi ≤ p → all_within lo hi (picked ws at 2 left) ≡ false
+  pub page_inside : lo ≤ p → p < hi → all_within lo hi (picked_on ws from 2 n k) ≡ all_within lo hi (picked_on ws from 2 n (k + 1))
   unfolding all_within
-  too_high l h = rw (picked_first ws at 2 left p left-some p-is, le-leb lo p l, le-ltb p hi h)
+  page_inside l h = rw (picked_next ws from 2 n k p some p-is, le-leb lo p l, lt-ltb p hi h)
 
-  pub one_within : lo ≤ p → p < hi → all_within lo hi (picked ws at 2 left) ≡ all_within lo hi (picked ws (at + 2) 2 (left - 1))
-  unfolding all_within
-  one_within l h = rw (picked_first ws at 2 left p left-some p-is, le-leb lo p l, lt-ltb p hi h)
-
-pub all_within_lem : (lo hi : ℕ) (ws : List ℕ) (at left : ℕ) → left ≤ 0 → all_within lo hi (picked ws at 2 left) ≡ true
+pub pages_end : (lo hi : ℕ) (ws : List ℕ) (from n k : ℕ) → n ≤ k → all_within lo hi (picked_on ws from 2 n k) ≡ true
 unfolding all_within
-all_within_lem lo hi ws at left h = rw (picked_none ws at 2 left h)
+pages_end lo hi ws from n k h = rw (picked_end ws from 2 n k h)
 
 -- ---- the head: k entries, start s, l pages
 
@@ -66,31 +68,23 @@ module _ (n b : ℕ) (ws : List ℕ) (at to : ℕ) (long : to ≤ length ws) whe
 
 -- ---- the region
 
-module _ (n b : ℕ) (ws : List ℕ) (at to : ℕ) (long : to ≤ length ws) {l k : ℕ} (f : Fronts ws n b at to (Region l k)) where
+module _ (n b : ℕ) (ws : List ℕ) (at to : ℕ) (long : to ≤ length ws) {r : Front} (f : Fronts ws n b at to (Some r)) where
   ends : next_at ws at ≤ to
   ends = rw f.5 f.2
 
-  head_is : (w : Bool) → all_within b (b + l) (picked ws (at + 3) 2 k) ≡ w → head_ok ws at n b ≡ w
-  head_is w e = rw (f.4, f.5, eq-eqb (start_at ws at) b f.3, lt-ltb 0 l f.0, le-leb (b + l) n f.1) e
+  head_is : (w : Bool) → all_within b (b + r.length) (picked ws (at + 3) 2 r.entries) ≡ w → head_ok ws at n b ≡ w
+  head_is w e = rw (f.4, f.5, eq-eqb (start_at ws at) b f.3, lt-ltb 0 r.length f.0, le-leb (b + r.length) n f.1) e
 
-  pub region_bad : all_within b (b + l) (picked ws (at + 3) 2 k) ≡ false → fine_from n b (slice at to ws) ≡ false
+  pub region_bad : all_within b (b + r.length) (picked ws (at + 3) 2 r.entries) ≡ false → fine_from n b (slice at to ws) ≡ false
   region_bad e = fine_false ws at to long ends n b (head_is false e)
 
-  pub region_good : all_within b (b + l) (picked ws (at + 3) 2 k) ≡ true
-      → fine_from n b (slice at to ws) ≡ fine_from n (b + l) (slice (at + (3 + 2 * k)) to ws)
+  pub region_good : all_within b (b + r.length) (picked ws (at + 3) 2 r.entries) ≡ true
+      → fine_from n b (slice at to ws) ≡ fine_from n (b + r.length) (slice (at + (3 + 2 * r.entries)) to ws)
   region_good e = fine_next ws at to long ends n b (head_is true e) ∙ rw (f.4, f.5)
-
-  pub region_reach : (bytes : ℕ) → 4 * to ≤ bytes → Reach bytes (at + 3) 2 k
-  region_reach bytes h j low = omega (arith, f.2)
 
 -- ---- the whole body
 
 module _ (n : ℕ) (ws : List ℕ) where
-  pub no_body : (from to : ℕ) → to ≤ from → from ≤ to → fine_body n (slice from to ws) ≡ true
-  no_body from to h k =
-      let same : from ≡ to = omega arith in
-      rw (same, slice_empty to ws)
-
   pub body_from : (from to : ℕ) → from < to → to ≤ length ws → fine_body n (slice from to ws) ≡ fine_from n (get_or ws from 0) (slice from to ws)
   body_from from to h long = rw (slice-cons from to ws 0 h long)
 

@@ -9,8 +9,8 @@ ghost use Rattle.promise.specs.Did.{Did};
 use checks::{check, span_inside};
 use faulting::write_one;
 use lookup::frame_of;
-use machine::Done;
-use memory::{Head, Lengths, WriteOut};
+use memory::{Head, Lengths, Out};
+use refusals::Refusal;
 use spanning::write_span;
 use spans::page_of;
 use storing::store_frame;
@@ -29,7 +29,7 @@ pub fn write(
     cache: &mut [u32],
     link: &mut [u32],
     ram: &mut [u8],
-) -> WriteOut
+) -> Out<Result<(), Refusal>>
     ensures { Did (machine.write space address bytes.now)
         (memory head index.now count.old table.old helper.old stack.old cache.old
         link.old ram.old)
@@ -48,11 +48,10 @@ pub fn write(
         link: link.len(),
         ram: ram.len(),
     };
-    let no = check(head, lent, space, span_inside(head, address, n));
-    if no != 0 {
-        return WriteOut {
+    if let Err(no) = check(head, lent, space, span_inside(head, address, n)) {
+        return Out {
             head,
-            answer: Done::Refused(no),
+            answer: Err(no),
         };
     }
     let first = page_of(head, address);
@@ -70,9 +69,9 @@ pub fn write(
         );
         if frame < head.frames {
             store_frame(head, frame, address, bytes, ram);
-            return WriteOut {
+            return Out {
                 head,
-                answer: Done::Ok,
+                answer: Ok(()),
             };
         }
         return write_one(

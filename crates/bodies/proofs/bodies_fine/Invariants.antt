@@ -1,13 +1,8 @@
 use mathlib.Core.Path.{◌≡◌}
 use Prim.Native.Nat.{◌-◌}
-use lib.ListN.{length}
 use Rattle.words.specs.Words.{words_in}
 use Rattle.machine.specs.MapRules.{bodies_fine}
 use Rattle.bodies.proofs.bodies_fine.Given as goal
 
 abbrev pub invariant-loop-i : goal.invariant-loop-i
-invariant-loop-i l =
-    (bodies_fine l.pages (words_in l.bytes) 0 l.spaces ≡ bodies_fine l.pages (words_in l.bytes) l.i (l.spaces - l.i)) × (length l.seen ≡ length l.initial.seen)
-
-abbrev pub decreases-loop-i : goal.decreases-loop-i
-decreases-loop-i l = l.spaces - l.i
+invariant-loop-i l = bodies_fine l.pages (words_in l.bytes) 0 l.spaces ≡ bodies_fine l.pages (words_in l.bytes) l.i (l.spaces - l.i)

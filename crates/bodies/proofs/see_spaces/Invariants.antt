@@ -7,6 +7,3 @@ use Rattle.bodies.proofs.see_spaces.Given as goal
 abbrev pub invariant-loop-i : goal.invariant-loop-i
 invariant-loop-i l =
     Seeing l.frames (held_frames (words_in l.bytes) 0 l.spaces) l.initial.seen l.seen (held_frames (words_in l.bytes) l.i (l.spaces - l.i))
-
-abbrev pub decreases-loop-i : goal.decreases-loop-i
-decreases-loop-i l = l.spaces - l.i

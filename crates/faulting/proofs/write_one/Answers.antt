@@ -1,5 +1,7 @@
 -- The touch, and its refusal or the store.
-use mathlib.Core.Path.{refl, ◌∙◌, sym}
+use mathlib.Core.Path.{refl, ap, ◌∙◌, sym}
+use Rattle.refusals.proofs.Laws.{not_none}
+use Rattle.faulting.specs.Writing.{refused_with}
 use Rattle.machine.specs.Machine.{span_pages}
 use Prim.Native.Nat.{◌/◌}
 use lib.ListN.{length}
@@ -27,10 +29,10 @@ pub touch_one-touched-requires : goal.touch_one-touched-requires
 touch_one-touched-requires c =
     (span_there (span (goal.at.touch_one-touched-requires c).Start), span_touchable (span (goal.at.touch_one-touched-requires c).Start), c.requires.1)
 
-pub returns-then-no-ne0 : goal.returns-then-no-ne0
-returns-then-no-ne0 c =
-    let n = c.number-no.ensures in
-    rw n (one_refused (span (goal.at.returns-then-no-ne0 c).Start) c.requires.1 c.touch_one-touched.ensures (λ e. c.if-no-ne0.true (n ∙ e)))
+pub returns-in-Err : goal.returns-in-Err
+returns-in-Err c =
+    let fails = ap refused_with c.in-Err.is in
+    rw fails at (one_refused (span (goal.at.returns-in-Err c).Start) c.requires.1 c.touch_one-touched.ensures (λ e. not_none _ (sym fails ∙ e)))
 
 pub store-requires : goal.store-requires
 store-requires c =
@@ -39,5 +41,4 @@ store-requires c =
 
 pub returns : goal.returns
 returns c =
-    one_done (span (goal.at.returns c).Start) c.requires.1 c.touch_one-touched.ensures (sym c.number-no.ensures ∙ c.if-no-ne0.false)
-    c.store.ensures
+    one_done (span (goal.at.returns c).Start) c.requires.1 c.touch_one-touched.ensures (ap refused_with c.in_default.is) c.store.ensures

@@ -1,51 +1,39 @@
 -- Behind the frames before them; or the first of them is the pool's first.
-use Prim.Native.Nat.{◌+◌, ◌*◌, ◌≤◌, ◌<◌}
+use Prim.Native.Nat.{◌<◌}
 use native.Mathlib.Omega.{arith}
 use lib.ListN.{length}
 use Rattle.words.specs.Words.{words_in}
 use Rattle.distinct.specs.Distinct.{picked}
-use Rattle.distinct.specs.Laws.{reach_first, reach_rest}
-use Rattle.founding.proofs.Laying.{lays_zero, lays_behind, lays_picked, first_low}
+use Rattle.distinct.specs.Laws.{reach_rest}
+use Rattle.founding.proofs.Laying.{cons_low, lays_zero, lays_behind, lays_picked, first_low}
 use Rattle.founding.proofs.lay_part.Goals as goal
-use Rattle.founding.proofs.lay_part.Goals.{Else-l}
-
-some : (c : Else-l) → 0 < c.args.n
-some c = omega (arith, c.if-n-eq0.false)
-
--- the first word lies in the file
-first : (c : Else-l) → 4 * c.args.from + 4 ≤ length c.args.bytes.now
-first c = let a = c.args in reach_first (length a.bytes.now) a.from a.step a.n c.requires.0 (some c)
 
 pub returns-then-n-eq0 : goal.returns-then-n-eq0
 returns-then-n-eq0 c =
     let a = c.args in
-    lays_zero a.l a.link.now (words_in a.bytes.now) a.from a.step a.n c.if-n-eq0.true (c.requires.2 0 (omega arith))
+    lays_zero a.before a.link.now (words_in a.bytes.now) a.from a.step a.n c.if-n-eq0.true c.requires.2
 
-pub returns-then-l : goal.returns-then-l
-returns-then-l c =
+pub lay-last-requires-in-None : goal.lay-last-requires-in-None
+lay-last-requires-in-None c =
     let a = c.args in
-    let laid = c.lay-last in
-    lays_behind a.l a.link.now (picked (words_in a.bytes.now) a.from a.step a.n) c.requires.2 c.if-l.true
-    _ _ laid.ensures.0 laid.ensures.1
-
-pub overflow_add-from : goal.overflow_add-from
-overflow_add-from c = omega (arith, c.requires.1, c.well_formed.0, first (goal.at.overflow_add-from c).Else-l)
-
-pub lay-last-requires-2 : goal.lay-last-requires-2
-lay-last-requires-2 c =
-    let a = c.args in (
-      reach_rest (length a.bytes.now) a.from a.step a.n c.requires.0 (some (goal.at.lay-last-requires-2 c).Else-l),
+    let some : 0 < a.n = omega (arith, c.if-n-eq0.false) in (
+      reach_rest (length a.bytes.now) a.from a.step a.n c.requires.0 some,
       c.requires.1,
-      first_low (words_in a.bytes.now) a.from a.step a.n c.word_at-first.result (some (goal.at.lay-last-requires-2 c).Else-l) c.word_at-first.ensures a.link.now a.l.last
-          c.requires.2,
+      first_low (words_in a.bytes.now) a.from a.step a.n c.word_at-first.result some c.word_at-first.ensures a.link.now c.requires.3,
     )
 
-pub returns : goal.returns
-returns c =
+pub returns-in-Some : goal.returns-in-Some
+returns-in-Some c =
     let a = c.args in
-    let laid = c.lay-last-2 in
-    lays_picked (words_in a.bytes.now) a.from a.step a.n c.word_at-first.result (some (goal.at.returns c).Else-l) c.word_at-first.ensures a.l a.link.now
-    c.requires.2 c.if-l.false _ _ laid.ensures.0 laid.ensures.1
+    let l = c.in-Some.laid in
+    let frames = picked (words_in a.bytes.now) a.from a.step a.n in
+    let laid = c.lay-last.ensures in
+    rw c.in-Some.is (lays_behind l a.link.now frames (cons_low a.link.now l.last frames (rw c.in-Some.is at c.requires.2) c.requires.3) _ _ laid.0 laid.1)
 
-pub word_at-first-requires : goal.word_at-first-requires
-word_at-first-requires c = first c
+pub returns-in-None : goal.returns-in-None
+returns-in-None c =
+    let a = c.args in
+    let some : 0 < a.n = omega (arith, c.if-n-eq0.false) in
+    let laid = c.lay-last-in-None.ensures in
+    rw c.in-None.is
+    (lays_picked (words_in a.bytes.now) a.from a.step a.n c.word_at-first.result some c.word_at-first.ensures a.link.now c.requires.3 _ _ laid.0 laid.1)

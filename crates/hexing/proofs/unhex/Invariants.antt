@@ -1,9 +1,6 @@
-use Prim.Native.Nat.{◌-◌}
+-- The bytes of the digits so far are written.
 use Rattle.hexing.proofs.Unhexing.{Unhexing}
 use Rattle.hexing.proofs.unhex.Given as goal
 
 abbrev pub invariant-loop-i : goal.invariant-loop-i
-invariant-loop-i l = Unhexing l.line l.n l.initial.buffer l.buffer l.at l.i
-
-abbrev pub decreases-loop-i : goal.decreases-loop-i
-decreases-loop-i l = l.n - l.i
+invariant-loop-i l = Unhexing l.digits l.initial.buffer l.buffer l.i

@@ -1,11 +1,8 @@
 use mathlib.Core.Path.{◌≡◌}
-use Prim.Native.Nat.{◌-◌, ◌≤◌}
+use Prim.Native.Nat.{◌-◌}
 use Rattle.words.specs.Words.{words_in}
 use Rattle.judging.specs.Contents.{counts_from}
 use Rattle.judging.proofs.counts_fine.Given as goal
 
 abbrev pub invariant-loop-i : goal.invariant-loop-i
-invariant-loop-i l = (l.i ≤ l.spaces) × (counts_from (words_in l.bytes) 0 l.spaces ≡ counts_from (words_in l.bytes) l.i (l.spaces - l.i))
-
-abbrev pub decreases-loop-i : goal.decreases-loop-i
-decreases-loop-i l = l.spaces - l.i
+invariant-loop-i l = counts_from (words_in l.bytes) 0 l.spaces ≡ counts_from (words_in l.bytes) l.i (l.spaces - l.i)

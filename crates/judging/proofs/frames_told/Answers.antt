@@ -1,30 +1,18 @@
 -- Third word after third word.
+use Prim.Native.Nat.{◌+◌}
 use native.Mathlib.Omega.{arith}
 use Rattle.words.specs.Words.{words_in}
-use Rattle.judging.proofs.Rows.{none_told, told_next, all_told}
+use Rattle.judging.proofs.Rows.{Telling, told_next, all_told}
 use Rattle.judging.proofs.frames_told.Goals as goal
+use Rattle.judging.proofs.frames_told.Goals.{After-count_at-told}
 
-pub loop-i-init : goal.loop-i-init
-loop-i-init c = none_told (words_in c.args.bytes.now) c.args.spaces
-
-pub count_at-told-requires : goal.count_at-told-requires
-count_at-told-requires c = omega (arith, c.requires.1, c.loop-i-test.true)
-
-pub overflow_add-told : goal.overflow_add-told
-overflow_add-told c =
-    omega (arith, c.loop-i.invariant.small, c.requires.0, c.loop-i-test.true, c.count_at-told.ensures.1)
-
-pub overflow_add-i : goal.overflow_add-i
-overflow_add-i c = omega (arith, c.requires.0, c.loop-i-test.true)
-
-pub loop-i-smaller : goal.loop-i-smaller
-loop-i-smaller c = omega (arith, c.loop-i-test.true)
+next : (c : After-count_at-told) → Telling (words_in c.args.bytes.now) c.args.spaces (c.loop-i.i + 1) (c.loop-i.told + c.count_at-told.result)
+next c =
+    let n = c.count_at-told in
+    told_next _ _ c.loop-i.i c.loop-i.told c.loop-i.invariant (omega arith) n.result n.ensures.0 n.ensures.1
 
 pub loop-i-preserved : goal.loop-i-preserved
-loop-i-preserved c =
-    told_next (words_in c.args.bytes.now) c.args.spaces c.loop-i.i c.loop-i.told c.loop-i.invariant c.loop-i-test.true
-    c.count_at-told.result c.count_at-told.ensures.0 c.count_at-told.ensures.1
+loop-i-preserved c = next (goal.at.loop-i-preserved c).After-count_at-told
 
-pub returns : goal.returns
-returns c =
-    all_told (words_in c.args.bytes.now) c.args.spaces c.loop-i.i c.loop-i.told c.loop-i.invariant c.loop-i-test.false
+pub returns-2 : goal.returns-2
+returns-2 c = all_told _ _ _ _ (next (goal.at.returns-2 c).After-count_at-told) (omega arith)

@@ -2,11 +2,10 @@
 use mathlib.Core.Path.{◌≡◌, sym, ap, ◌∙◌}
 use mathlib.Core.Bool.{Bool, ◌&&◌}
 use Prim.Native.Nat.{◌%◌}
-use borrow.Author.Tests.{eq-eqb, ne_eqb}
+use borrow.Author.Tests.{eq-eqb}
 use lib.Dec.{eqb}
 use lib.ListN.{length}
 use Rattle.words.specs.Words.{words_in}
-use Rattle.machine.specs.State.{Sizes}
 use Rattle.machine.specs.MapRules.{rules_ok}
 use Rattle.judging.proofs.Judged.{contents_bad}
 use Rattle.judging.proofs.inspect.Goals as goal
@@ -18,24 +17,6 @@ rules_left c =
     let file = c.args.bytes.now in
     sym (ap (λ (b : Bool). b && rules_ok (words_in file)) (eq-eqb (length file % 4) 0 c.if-bytes-ne0.false))
 
-pub returns-then-bytes-ne0 : goal.returns-then-bytes-ne0
-returns-then-bytes-ne0 c =
-    let file = c.args.bytes.now in
-    sym (ap (λ (b : Bool). b && rules_ok (words_in file)) (ne_eqb (length file % 4) 0 c.if-bytes-ne0.true))
-
 pub returns-in_default : goal.returns-in_default
 returns-in_default c =
     sym (contents_bad c.args.bytes.now (rw c.in_default.is at c.contents_of.ensures)) ∙ rules_left (goal.at.returns-in_default c).Else-bytes-ne0
-
-pub rules_kept-requires : goal.rules_kept-requires
-rules_kept-requires c =
-    let told = rw c.in-Sizes.is at c.contents_of.ensures in
-    record {
-      ok = told.0;
-      spaces_is = c.wide.ensures ∙ ap (λ (z : Sizes). z.spaces) told.1;
-      pages_is = c.wide-2.ensures ∙ ap (λ (z : Sizes). z.pages) told.1;
-      frames_is = c.wide-3.ensures ∙ ap (λ (z : Sizes). z.frames) told.1;
-    }
-
-pub returns : goal.returns
-returns c = c.rules_kept.ensures ∙ rules_left (goal.at.returns c).Else-bytes-ne0

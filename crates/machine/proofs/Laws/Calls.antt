@@ -1,5 +1,5 @@
 -- What each call keeps, one entry a call; from it what any call keeps, and any history.
-use Rattle.std.specs.Prelude.{◌≡◌, Bool, true, false, cond, not, ◌&&◌, ◌||◌, ℕ, zero, suc, ◌+◌, ◌*◌, ◌≤◌, eqb, ltb, leb}
+use Rattle.std.specs.Prelude.{◌≡◌, Bool, true, false, cond, not, ◌&&◌, ◌||◌, ℕ, zero, suc, ◌+◌, ◌*◌, ◌≤◌, ltb, leb}
 use Rattle.std.proofs.Math.Path.{refl}
 use Rattle.std.proofs.Common.{sym, ap, ap₂, ◌∙◌, subst, arith}
 use Rattle.std.proofs.lemmas.Bool.{false≢true}
@@ -9,7 +9,7 @@ use borrow.Author.Tests.{ltb-true, leb-true}
 use Rattle.std.proofs.Math.ListN.{length}
 use Rattle.machine.specs.declared.PageCall.{PageCall}
 use Rattle.machine.specs.declared.PageCall.TheVariants.{Mark, Drop, Touch, Look, Release, GiveBack}
-use Rattle.machine.specs.Machine.{Sizes, place_of, sizes_ok, space_bytes, span_pages, page_of_address, State, Lent, is_start, start_of, words_at, page_of, enough}
+use Rattle.machine.specs.Machine.{Sizes, place_of, sizes_ok, space_bytes, State, Lent, is_start, start_of, words_at, page_of, enough}
 use Rattle.machine.specs.Machine.{Call, start, page, free, translate, read, write, list, write_map, read_map, uses, facts, page_facts, tables_and_ram}
 use Rattle.machine.specs.Machine.{every_buffer, lends}
 use Rattle.machine.specs.Machine.{lent_ok, refusal, sizes_by, sizes_for, sizes_after, asked, Effect, unchanged, prepared, refilled, start_put, page_mapped}
@@ -17,7 +17,7 @@ use Rattle.machine.specs.Machine.{region_emptied, page_given_back, span_stored, 
 use Rattle.machine.specs.Machine.{Kind, ended, touched, looked, released, counted, translated, copied, listed, map_written, refusal_of, Answer, done}
 use Rattle.machine.specs.Machine.{Out, tell}
 use Rattle.machine.specs.Machine.{with_ram, mark_at, drop_at, span_outside, span_short, restored_if, accepted, unless, step, answer, after, after_all}
-use Rattle.machine.specs.Claims.{Sound, Address, RamFits, is_refused, shows, or_zero, in_run, is_beginning, aims_at, aims, ends, shows_by, shows_from}
+use Rattle.machine.specs.Claims.{Sound, Address, RamFits, is_refused, shows, is_beginning, aims_at, aims, ends, shows_from}
 use Rattle.machine.specs.Claims.{shows_after, Spared, MayChangeBy, MayChange}
 use Rattle.machine.proofs.Laws.Sizes.{both, passed, file_passed}
 use Rattle.words.specs.Words.{words_in}

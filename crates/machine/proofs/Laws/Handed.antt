@@ -1,7 +1,7 @@
 -- A page handed back: the last pair takes its position. What that leaves of a list, that the state stays sound, and who holds which frame then.
 use Rattle.std.specs.Prelude.{◌≡◌, refl, ◌≢◌, Bool, true, false, cond, List, [], ◌∷◌, ℕ, suc, ◌+◌, ◌-◌, ◌≤◌, ◌<◌, eqb, length, get_or, set, take}
 use Rattle.std.proofs.Common.{sym, ap, ◌∙◌, subst, arith, eqb-true, length-set, length-take-le, take-suc, take_all, get_or-take, get_or-set_same, get_or-set_other}
-use Rattle.std.proofs.Math.Option.{none, some, none-ne-some}
+use Rattle.std.proofs.Math.Option.{some, none-ne-some}
 use Rattle.std.proofs.Math.Decide.{ℕ_discrete}
 use Rattle.sequence.specs.Sums.{sum, sum_append, sum_set, sum_at, hit, hit_same}
 use Rattle.machine.specs.Machine.{State, Pair, no_pair, region, start_of, frame_in, Page, outside, unmapped, mapped, page_of, index_in, without_of, without}

@@ -1,13 +1,13 @@
 -- W-201: "no answer since a start depends on the RAM's starting contents". Two machines that differ in their RAMs alone, and these not at a byte that an
 -- address shows, give the same answers to the same calls and stay so.
-use Rattle.std.specs.Prelude.{◌≡◌, refl, Bool, true, false, cond, List, [], ◌∷◌, ℕ, ◌+◌, ◌-◌, ◌<◌, eqb, length, get_or}
+use Rattle.std.specs.Prelude.{◌≡◌, refl, Bool, true, false, List, [], ◌∷◌, ℕ, ◌+◌, ◌<◌, length}
 use Rattle.std.proofs.Common.{sym, ap, ap₂, ◌∙◌, subst, not-suc-le-zero}
 use Rattle.std.proofs.Math.Option.{Option, none, some}
 use Rattle.sequence.specs.Lists.{tabulate_same, get_or_same}
-use Rattle.machine.specs.Machine.{Sizes, places, place_of, page_of_address, span_pages, sizes_by, State, begun, region, start_of, ram_at}
-use Rattle.machine.specs.Machine.{Call, facts, Effect, unchanged, prepared, refilled, start_put, page_mapped}
-use Rattle.machine.specs.Machine.{region_emptied, page_given_back, span_stored, Answer, bytes, byte_in, byte_at, with_ram, answer, after, answers}
-use Rattle.machine.specs.Claims.{Sound, Bare, BeginsBare, Address, is_refused, is_start_at, shown_at, shows, or_zero, in_run, in_span, shows_by, shows_from}
+use Rattle.machine.specs.Machine.{Sizes, places, sizes_by, State, begun, ram_at}
+use Rattle.machine.specs.Machine.{Call, facts}
+use Rattle.machine.specs.Machine.{Answer, bytes, byte_in, byte_at, with_ram, answer, after, answers}
+use Rattle.machine.specs.Claims.{Sound, Bare, BeginsBare, Address, is_refused, shown_at, shows, shows_from}
 use Rattle.machine.proofs.Laws.Kept.{sound_stored}
 use Rattle.machine.proofs.Laws.Pairs.{shows_none}
 use Rattle.machine.proofs.Laws.ShownSame.{shown_same}

@@ -1,12 +1,11 @@
 -- What is shown after a call, from what was shown before, whatever the RAM.
-use Rattle.std.specs.Prelude.{◌≡◌, refl, Bool, true, false, cond, List, [], ◌∷◌, ℕ, ◌+◌, ◌-◌, ◌<◌, eqb, length, get_or}
-use Rattle.std.proofs.Common.{sym, ap, ap₂, ◌∙◌, subst, not-suc-le-zero}
+use Rattle.std.specs.Prelude.{◌≡◌, cond, List, ℕ, ◌-◌, eqb, length, get_or}
+use Rattle.std.proofs.Common.{ap}
 use Rattle.std.proofs.Math.Option.{Option, none, some}
-use Rattle.sequence.specs.Lists.{tabulate_same, get_or_same}
-use Rattle.machine.specs.Machine.{Sizes, places, place_of, page_of_address, span_pages, sizes_by, State, begun, region, start_of, ram_at}
-use Rattle.machine.specs.Machine.{Call, facts, Effect, unchanged, prepared, refilled, start_put, page_mapped}
-use Rattle.machine.specs.Machine.{region_emptied, page_given_back, span_stored, Answer, bytes, byte_in, byte_at, with_ram, answer, after, answers}
-use Rattle.machine.specs.Claims.{Sound, Bare, BeginsBare, Address, is_refused, is_start_at, shown_at, shows, or_zero, in_run, in_span, shows_by, shows_from}
+use Rattle.machine.specs.Machine.{place_of, page_of_address, span_pages, State, start_of}
+use Rattle.machine.specs.Machine.{Effect, unchanged, prepared, refilled, start_put, page_mapped}
+use Rattle.machine.specs.Machine.{region_emptied, page_given_back, span_stored, with_ram}
+use Rattle.machine.specs.Claims.{is_start_at, shows, or_zero, in_run, in_span, shows_by}
 
 pub shown_same : (m : State) (r : List ℕ) (i x : ℕ) → shows (with_ram m r) i x ≡ shows m i x → (e : Effect) → shows_by (with_ram m r) i x e ≡ shows_by m i x e
 shown_same m r i x h unchanged = h

@@ -1,20 +1,11 @@
 -- An effect that spares a byte leaves it.
-use Rattle.std.specs.Prelude.{◌≡◌, Bool, true, false, cond, not, ◌&&◌, ◌||◌, ℕ, zero, suc, ◌+◌, ◌*◌, ◌≤◌, eqb, ltb, leb}
-use Rattle.std.proofs.Math.Path.{refl}
-use Rattle.std.proofs.Common.{sym, ap, ap₂, ◌∙◌, subst, arith}
-use Rattle.std.proofs.Math.Option.{Option, none, some, none-ne-some}
-use mathlib.Core.List.{List, [], ◌∷◌}
+use Rattle.std.specs.Prelude.{◌≡◌, Bool, true, false, ℕ, eqb}
+use Rattle.std.proofs.Math.Option.{Option, some}
 use Rattle.std.proofs.Math.ListN.{length}
-use Rattle.machine.specs.Machine.{Sizes, place_of, sizes_ok, space_bytes, span_pages, page_of_address, State, Lent, is_start, start_of, words_at, page_of, enough}
-use Rattle.machine.specs.Machine.{Call, start, page, free, translate, read, write, list, write_map, read_map, uses, facts, page_facts, tables_and_ram}
-use Rattle.machine.specs.Machine.{every_buffer, lends}
-use Rattle.machine.specs.Machine.{lent_ok, refusal, sizes_by, sizes_for, sizes_after, asked, Effect, unchanged, prepared, refilled, start_put, page_mapped}
-use Rattle.machine.specs.Machine.{region_emptied, page_given_back, span_stored, given_back}
-use Rattle.machine.specs.Machine.{Kind, ended, touched, looked, released, counted, translated, copied, listed, map_written, refusal_of, Answer, done}
-use Rattle.machine.specs.Machine.{Out, tell}
-use Rattle.machine.specs.Machine.{with_ram, mark_at, drop_at, span_outside, span_short, restored_if, accepted, unless, step, answer, after, after_all}
-use Rattle.machine.specs.Claims.{Sound, Address, RamFits, is_refused, shows, or_zero, in_run, is_beginning, aims_at, aims, ends, shows_by, shows_from}
-use Rattle.machine.specs.Claims.{shows_after, Spared, MayChangeBy, MayChange}
+use Rattle.machine.specs.Machine.{place_of, span_pages, page_of_address, State}
+use Rattle.machine.specs.Machine.{Effect, unchanged, prepared, refilled, start_put, page_mapped}
+use Rattle.machine.specs.Machine.{region_emptied, page_given_back, span_stored}
+use Rattle.machine.specs.Claims.{shows, or_zero, in_run, aims_at, shows_by}
 
 zero_not : (t : Bool) (o : Option ℕ) (v : ℕ) → o ≡ some v → or_zero t o ≡ some v
 zero_not false o v h = h

@@ -4,7 +4,7 @@ use Rattle.std.proofs.Common.{ap, ◌∙◌, arith, ltb-true}
 use Rattle.std.proofs.Math.Option.{Option, none, some}
 use Rattle.machine.specs.Machine.{Sizes, places, place_of, span_pages, State, Pair, is_start, region, start_of, Page, outside, unmapped, mapped, page_of}
 use Rattle.machine.specs.Machine.{first_refusal, words_at, Out, unless_resident, mark_at, drop_at, touch_new, touch_page, touch_at, release_at, touch_all, write_if}
-use Rattle.machine.specs.Machine.{span_touched, with_pair, after}
+use Rattle.machine.specs.Machine.{span_touched, with_pair}
 use Rattle.machine.specs.Claims.{Sound}
 use Rattle.machine.proofs.Laws.Sizes.{passed, place_below}
 use Rattle.machine.proofs.Laws.Lookup.{is_unmapped_lem}

@@ -1,14 +1,18 @@
 -- With room and without.
-use mathlib.Core.Path.{refl}
-use native.Mathlib.Omega.{arith}
-use Rattle.printing.proofs.Saying.{short_out, said}
+use Rattle.std.proofs.Common.{[], sym, ◌∙◌, rules, arith}
+use Rattle.requests.specs.declared.Reply.TheVariants.{Refused}
+use Rattle.printing.specs.Writing.{Says}
+use Rattle.printing.proofs.Saying.{no_room, said_in_room}
 use Rattle.printing.proofs.say_refused.Goals as goal
 
-pub returns-then-out-at : goal.returns-then-out-at
-returns-then-out-at c = short_out _ _ _ _ _ (omega arith)
-
-pub returns-then-out-at-lt65536 : goal.returns-then-out-at-lt65536
-returns-then-out-at-lt65536 c = short_out _ _ _ _ _ (omega arith)
+pub returns-then-not-has_room : goal.returns-then-not-has_room
+returns-then-not-has_room c = no_room _ _ _ _ _ (sym c.has_room.ensures ∙ c.if-not-has_room.true)
 
 pub returns : goal.returns
-returns c = said _ _ _ _ _ _ refl (omega arith) (omega arith) (omega arith) (omega arith) c.put_no.ensures
+returns c =
+    let a = c.args in
+    let t = c.put_pair.new.self in
+    let said : Says a.at a.out.now (Refused a.k) [] [] t.at t.out.now =
+    said_in_room _ _ _ _ _ (sym c.has_room.ensures ∙ c.if-not-has_room.false) (omega arith) (omega arith)
+    (rw c.from.ensures at c.put_pair.ensures.added.wrote) in
+    search (rules, said)

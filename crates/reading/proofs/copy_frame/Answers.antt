@@ -1,12 +1,12 @@
 -- The part lies in the frame, and all of dst is filled.
-use mathlib.Core.Path.{◌≡◌, refl, ap, ap₂, ◌∙◌}
+use mathlib.Core.Path.{◌≡◌, ap, ap₂, ◌∙◌}
 use mathlib.Core.List.{List, [], ◌++◌, append-nil}
 use Prim.Native.Nat.{ℕ, ◌+◌, ◌-◌}
 use native.Mathlib.Nat.{add-sub_cancel_left}
 use native.Mathlib.Omega.{arith}
 use lib.ListN.{length, take, drop, drop_of_length-le}
 use Rattle.spans.specs.Parts.{RamPlace}
-use Rattle.spans.specs.PartLaws.{part_small, part_ends, part_low, part_long}
+use Rattle.spans.specs.PartLaws.{part_small, part_long}
 use Rattle.reading.proofs.copy_frame.Goals as goal
 use Rattle.reading.proofs.copy_frame.Goals.{After-ram_place-from}
 
@@ -24,21 +24,8 @@ filled from q n ram dst dst' is long same e =
     ∙ append-nil src
     ∙ ap₂ (λ (c p : ℕ). take c (drop p ram)) (add-sub_cancel_left from n) is
 
-pub ram_place-from-requires : goal.ram_place-from-requires
-ram_place-from-requires c = c.requires.0.1.span.sizes_ok_lem
-
-pub overflow_add-to : goal.overflow_add-to
-overflow_add-to c = omega (arith, part_low _ _ _ _ _ c.requires.0.1 _ (in_frame (goal.at.overflow_add-to c).After-ram_place-from))
-
-pub slice_bounds-copy-end : goal.slice_bounds-copy-end
-slice_bounds-copy-end c = omega (arith, part_ends _ _ _ _ _ c.requires.0.1 _ (in_frame (goal.at.slice_bounds-copy-end c).After-ram_place-from))
-
 pub copy-requires : goal.copy-requires
 copy-requires c =
     let pre = c.requires.0.1 in
     let long = part_long _ _ _ _ _ pre _ (in_frame (goal.at.copy-requires c).After-ram_place-from) in
     (omega (arith, long, part_small _ _ _ _ _ pre), omega (arith, long))
-
-pub returns : goal.returns
-returns c =
-    filled _ _ _ _ _ _ c.ram_place-from.ensures (part_long _ _ _ _ _ c.requires.0.1 _ (in_frame (goal.at.returns c).After-ram_place-from)) refl c.copy.ensures

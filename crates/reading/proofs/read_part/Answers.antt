@@ -1,16 +1,7 @@
 -- The frame that the table has, and the bytes out of it.
 use native.Mathlib.Omega.{arith}
-use Rattle.spans.specs.PartLaws.{part_address}
 use Rattle.reading.specs.Copies.{none_copied, frame_copied}
 use Rattle.reading.proofs.read_part.Goals as goal
-
-pub frame_at-frame-requires : goal.frame_at-frame-requires
-frame_at-frame-requires c =
-    let pre = c.requires in
-    (pre.0.span.sizes_ok_lem, part_address _ _ _ _ _ pre.0, pre.1)
-
-pub copy_frame-requires : goal.copy_frame-requires
-copy_frame-requires c = ((_, c.requires.0), c.if-frame-head.true)
 
 pub returns-then-frame-head : goal.returns-then-frame-head
 returns-then-frame-head c =

@@ -1,8 +1,9 @@
 -- Starts, frames, pages: each step finds what it asks for, and the last leaves the state.
+use Rattle.std.proofs.Common.{rules}
 use Rattle.machine.specs.Machine.{State}
 use Rattle.memory.specs.Memory.{memory}
 use Rattle.restoring.specs.Founded.{Founded}
-use Rattle.restoring.proofs.Restoring.{Reads, few, rows, low, some_link, can, restored}
+use Rattle.restoring.proofs.Restoring.{Reads, few, rows, low, can, restored}
 use Rattle.restoring.proofs.restore.Goals as goal
 use Rattle.restoring.proofs.restore.Goals.{After-wide-pages}
 
@@ -17,22 +18,22 @@ reads c m F = record { founded = F; spaces_are = c.wide-spaces.ensures; pages_ar
 pub mark_all-requires : goal.mark_all-requires
 mark_all-requires c = let x = reads (goal.at.mark_all-requires c).After-wide-pages c.requires.0 c.requires.1 in (few x, rows x)
 
-pub lay_all-laid-requires : goal.lay_all-laid-requires
-lay_all-laid-requires c = let x = reads (goal.at.lay_all-laid-requires c).After-wide-pages c.requires.0 c.requires.1 in (rows x, low x, some_link x)
+pub lay_all-requires : goal.lay_all-requires
+lay_all-requires c = let x = reads (goal.at.lay_all-requires c).After-wide-pages c.requires.0 c.requires.1 in (rows x, low x)
 
 pub fill_all-requires : goal.fill_all-requires
 fill_all-requires c =
     let x = reads (goal.at.fill_all-requires c).After-wide-pages c.requires.0 c.requires.1 in (
       few x,
       rows x,
-      can x (record { marked = c.mark_all.ensures; laid = c.lay_all-laid.ensures; linked = c.linked-next.ensures }),
+      can x (record { marked = c.mark_all.ensures; laid = c.lay_all.ensures; first = search rules; linked = c.linked-next.ensures }),
     )
 
 pub returns : goal.returns
 returns c =
     λ m F.
     restored (reads (goal.at.returns c).After-wide-pages m F)
-    (record { marked = c.mark_all.ensures; laid = c.lay_all-laid.ensures; linked = c.linked-next.ensures }) _
+    (record { marked = c.mark_all.ensures; laid = c.lay_all.ensures; first = search rules; linked = c.linked-next.ensures }) _
     (c.fill_all.ensures _ m.ram)
 
 pub shape_of-index : goal.shape_of-index

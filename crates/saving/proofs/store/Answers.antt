@@ -1,31 +1,21 @@
 -- Contents, bodies, pool.
-use mathlib.Core.List.{[]}
 use mathlib.Core.Path.{refl}
-use Rattle.memory.specs.Memory.{memory}
 use Rattle.saving.proofs.Whole.{contents_ask, bodies_ask, pool_ask, file_stored}
 use Rattle.saving.proofs.store.Goals as goal
 
 pub put_contents-requires : goal.put_contents-requires
 put_contents-requires c =
-    let a = c.args in
-    contents_ask (memory a.head a.index.now a.count.now a.table.now [] a.stack.now [] a.link.now []) a.file.now
-    c.wide-spaces.ensures refl c.requires
+    contents_ask _ _ c.wide-spaces.ensures refl c.requires
 
 pub put_bodies-last-requires : goal.put_bodies-last-requires
 put_bodies-last-requires c =
-    let a = c.args in
-    bodies_ask (memory a.head a.index.now a.count.now a.table.now [] a.stack.now [] a.link.now []) a.file.now
-    c.wide-spaces.ensures c.wide.ensures c.requires c.put_contents.ensures
+    bodies_ask _ _ c.wide-spaces.ensures c.wide.ensures c.requires c.put_contents.ensures
 
 pub put_pool-requires : goal.put_pool-requires
 put_pool-requires c =
-    let a = c.args in
-    pool_ask (memory a.head a.index.now a.count.now a.table.now [] a.stack.now [] a.link.now []) a.file.now
-    c.wide-spaces.ensures c.wide.ensures c.requires c.put_contents.ensures c.put_bodies-last.ensures
+    pool_ask _ _ c.wide-spaces.ensures c.wide.ensures c.requires c.put_contents.ensures c.put_bodies-last.ensures
 
 pub returns : goal.returns
 returns c =
-    let a = c.args in
-    file_stored (memory a.head a.index.now a.count.now a.table.now [] a.stack.now [] a.link.now []) a.file.now
-    c.wide-spaces.ensures c.wide.ensures c.requires c.put_contents.ensures c.put_bodies-last.ensures
+    file_stored _ _ c.wide-spaces.ensures c.wide.ensures c.requires c.put_contents.ensures c.put_bodies-last.ensures
     c.put_pool.ensures

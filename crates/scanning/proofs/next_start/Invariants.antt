@@ -1,4 +1,5 @@
-use Prim.Native.Nat.{◌≤◌, ◌-◌}
+-- No start from p to before q; what is left to the end is the measure.
+use Rattle.std.specs.Prelude.{◌≤◌, ◌-◌}
 use Rattle.layer.specs.Words.{bit_at}
 use Rattle.scanning.specs.Starts.{NoneIn}
 use Rattle.scanning.proofs.next_start.Given as goal

@@ -9,7 +9,7 @@ returns-in_default c = c.no_sizes.ensures ∙ no_page_size _ _ _ _ _ c.of.ensure
 
 pub returns-then-not-sizes_ok : goal.returns-then-not-sizes_ok
 returns-then-not-sizes_ok c = c.no_sizes-then-not-sizes_ok.ensures ∙ too_large _ _ _ _ _ c.of.ensures _
-    c.in-Made.is (failed c.sizes_ok.ensures c.if-not-sizes_ok.true-raw)
+    c.in-Ok.is (failed c.sizes_ok.ensures c.if-not-sizes_ok.true-raw)
 
 pub index_words-requires : goal.index_words-requires
 index_words-requires c = rw c.all_places-places.ensures (countable _ (held c.sizes_ok.ensures c.if-not-sizes_ok.false-raw))
@@ -31,4 +31,4 @@ returns c =
       c.all_places-places.ensures,
     )
     (within_limits _ _ _ _ _ c.of.ensures _
-    c.in-Made.is ok)
+    c.in-Ok.is ok)

@@ -1,5 +1,7 @@
 -- The store alone where every page is resident; else the absent pages counted, what settles the write, the touches, the stores.
-use mathlib.Core.Path.{refl}
+use mathlib.Core.Path.{refl, sym, ap, ◌∙◌}
+use Rattle.refusals.specs.Refusals.{refusal}
+use Rattle.refusals.proofs.Laws.{not_none}
 use Prim.Native.Nat.{◌+◌}
 use native.Mathlib.Omega.{arith}
 use Rattle.memory.specs.Memory.{Memory, memory}
@@ -23,7 +25,7 @@ some_absent : (c : Else-all_resident)
 some_absent c = c.all_resident.ensures.no c.if-all_resident.false
 
 decision : (c : After-settle-short)
-    → Decided (lent c) c.args.space c.args.address c.args.bytes.now c.settle-short.result
+    → Decided (lent c) c.args.space c.args.address c.args.bytes.now (refusal c.settle-short.result)
 decision c = decided c.requires (c.all_resident.ensures.no c.if-all_resident.false) c.count_absent-absent.ensures c.settle-short.ensures
 
 pub overflow_add-end : goal.overflow_add-end
@@ -51,8 +53,10 @@ settle-short-requires c =
     let s = c.requires in
     (first_inside s (some_absent (goal.at.settle-short-requires c).Else-all_resident), span_lookable s)
 
-pub returns-then-short-ne0 : goal.returns-then-short-ne0
-returns-then-short-ne0 c = refused_short c.requires (decision (goal.at.returns-then-short-ne0 c).After-settle-short) c.if-short-ne0.true
+pub returns-in-Err : goal.returns-in-Err
+returns-in-Err c =
+    let told = ap refusal c.in-Err.is in
+    rw told at (refused_short c.requires (decision (goal.at.returns-in-Err c).After-settle-short) (λ e. not_none _ (sym told ∙ e)))
 
 pub touch_all-next-requires : goal.touch_all-next-requires
 touch_all-next-requires c = let s = c.requires in (span_there s, span_touchable s)
@@ -64,4 +68,4 @@ store-requires-2 c =
 
 pub returns : goal.returns
 returns c =
-    written_over c.requires c.touch_all-next.ensures (decision (goal.at.returns c).After-settle-short) c.if-short-ne0.false c.store-2.ensures
+    written_over c.requires c.touch_all-next.ensures (decision (goal.at.returns c).After-settle-short) (ap refusal c.in_default.is) c.store-2.ensures

@@ -8,7 +8,7 @@ use borrow.Rule.Slice.PartMut.{put_mid}
 use lib.ListN.{length, take, drop, drop_of_length-le}
 use lib.Seq.{sets}
 use Rattle.spans.specs.Parts.{RamPlace}
-use Rattle.spans.specs.PartLaws.{put_sets, part_small, part_low, part_ends, part_long}
+use Rattle.spans.specs.PartLaws.{put_sets, part_small, part_ends, part_long}
 use Rattle.storing.proofs.store_frame.Goals as goal
 use Rattle.storing.proofs.store_frame.Goals.{After-ram_place-from}
 
@@ -24,15 +24,6 @@ part_back from q vs ram last is l long e =
     ap₂ (λ (k : ℕ) (ws : List ℕ). put_mid from k ram ws) (add-sub_cancel_left from n) (e ∙ ap (λ (ws : List ℕ). vs ++ ws) rest ∙ append-nil vs)
     ∙ put_sets from n ram vs refl l
     ∙ ap (λ (p : ℕ). sets ram p vs) is
-
-pub ram_place-from-requires : goal.ram_place-from-requires
-ram_place-from-requires c = c.requires.0.1.span.sizes_ok_lem
-
-pub overflow_add-to : goal.overflow_add-to
-overflow_add-to c = omega (arith, part_low _ _ _ _ _ c.requires.0.1 _ (in_frame (goal.at.overflow_add-to c).After-ram_place-from))
-
-pub slice_bounds-copy-end : goal.slice_bounds-copy-end
-slice_bounds-copy-end c = omega (arith, part_ends _ _ _ _ _ c.requires.0.1 _ (in_frame (goal.at.slice_bounds-copy-end c).After-ram_place-from))
 
 pub copy-requires : goal.copy-requires
 copy-requires c =

@@ -1,43 +1,51 @@
 -- The first page's refusal, or whether the pool has a frame for each absent page.
-use mathlib.Core.Path.{◌≡◌}
-use mathlib.Core.Logic.{◌⊎◌, inl, inr}
-use Rattle.surveying.proofs.Settling.{LookedUp, settled_outside, settled_short, settled_enough, settled_broken}
+use mathlib.Core.Path.{refl, sym, ap}
+use Rattle.std.proofs.lemmas.Result.{err_from_is_err_and}
+use Rattle.spans.specs.Spans.{absence_of}
+use Rattle.surveying.proofs.Settling.{LookedUp, in_region, settled_refused, settled_short, settled_enough, settled_broken}
 use Rattle.surveying.proofs.settle.Goals as goal
-use Rattle.surveying.proofs.settle.Goals.{then-no-ne0+else-no-ne10, else-no-ne0, After-absence-no, Joined-no-ne0}
+use Rattle.surveying.proofs.settle.Goals.{After-look_checked-found}
 
-looked_up : (c : After-absence-no)
+looked_up : (c : After-look_checked-found)
     → let a = c.args in
     LookedUp a.head a.space a.first a.absent a.index.now a.count.now a.table.now a.helper.now a.stack.now a.cache.now
-    c.absence-no.result
+    (absence_of c.look_checked-found.result)
 looked_up c =
     record {
       ready = c.requires.1 c.args.first c.requires.0;
-      found = c.look_checked.result;
-      looks = c.look_checked.ensures;
-      no_is = c.absence-no.ensures;
+      found = c.look_checked-found.result;
+      looks = c.look_checked-found.ensures;
+      no_is = refl;
     }
 
--- the first page has a region
-in_region : (c : Joined-no-ne0) → (c.absence-no.result ≡ 0) ⊎ (c.absence-no.result ≡ 10)
-in_region c = elim c.if-no-ne0.branch [ then-no-ne0+else-no-ne10 w ↦ inr w.if-no-ne10.false | else-no-ne0 w ↦ inl w.if-no-ne0.false ]
+pub look_checked-found-requires : goal.look_checked-found-requires
+look_checked-found-requires c = c.requires.1 c.args.first c.requires.0
 
-pub look_checked-requires : goal.look_checked-requires
-look_checked-requires c = c.requires.1 c.args.first c.requires.0
+pub returns-in-Err : goal.returns-in-Err
+returns-in-Err c =
+    settled_refused _ _ _ _ _ _ _ _ _ _
+    (record {
+      ready = c.requires.1 c.args.first c.requires.0;
+      found = c.look_checked-found.result;
+      looks = c.look_checked-found.ensures;
+      no_is = sym (ap absence_of c.in-Err.is);
+    })
+    _ c.in-Err.is refl
 
-pub returns-then-no-ne10 : goal.returns-then-no-ne10
-returns-then-no-ne10 c = settled_outside _ _ _ _ _ _ _ _ _ _ (looked_up (goal.at.returns-then-no-ne10 c).After-absence-no) c.if-no-ne0.true c.if-no-ne10.true
+-- the free frames, of a first page that has a region
+pub returns-in_err-free : goal.returns-in_err-free
+returns-in_err-free c =
+    let p = err_from_is_err_and c.from_residual.result c.from_residual.ensures.1 in
+    rw (p.1, p.2)
+    (settled_broken _ _ _ _ _ _ _ _ _ _ (looked_up (goal.at.returns-in_err-free c).After-look_checked-found) (in_region _ _ c.in_default.is) _
+    (c.free.ensures _ _ _ _ _ _) _ c.in_err-free.was)
 
-pub returns-then-n-absent : goal.returns-then-n-absent
-returns-then-n-absent c =
-    settled_short _ _ _ _ _ _ _ _ _ _ (looked_up (goal.at.returns-then-n-absent c).After-absence-no) (in_region (goal.at.returns-then-n-absent c).Joined-no-ne0) _ (c.free.ensures _ _ _ _ _ _) _
-    c.in-Frames.is c.if-n-absent.true
+pub returns-then-branch-absent : goal.returns-then-branch-absent
+returns-then-branch-absent c =
+    settled_short _ _ _ _ _ _ _ _ _ _ (looked_up (goal.at.returns-then-branch-absent c).After-look_checked-found) (in_region _ _ c.in_default.is) _
+    (c.free.ensures _ _ _ _ _ _) _ c.in_ok-free.was c.if-branch-absent.true
 
-pub returns-else-n-absent : goal.returns-else-n-absent
-returns-else-n-absent c =
-    settled_enough _ _ _ _ _ _ _ _ _ _ (looked_up (goal.at.returns-else-n-absent c).After-absence-no) (in_region (goal.at.returns-else-n-absent c).Joined-no-ne0) _ (c.free.ensures _ _ _ _ _ _) _
-    c.in-Frames.is c.if-n-absent.false
-
-pub returns-in-Refused : goal.returns-in-Refused
-returns-in-Refused c =
-    settled_broken _ _ _ _ _ _ _ _ _ _ (looked_up (goal.at.returns-in-Refused c).After-absence-no) (in_region (goal.at.returns-in-Refused c).Joined-no-ne0) _ (c.free.ensures _ _ _ _ _ _) _
-    c.in-Refused.is
+pub returns : goal.returns
+returns c =
+    settled_enough _ _ _ _ _ _ _ _ _ _ (looked_up (goal.at.returns c).After-look_checked-found) (in_region _ _ c.in_default.is) _
+    (c.free.ensures _ _ _ _ _ _) _ c.in_ok-free.was c.if-branch-absent.false

@@ -1,3 +1,4 @@
+-- What each test of a head says of the body.
 use Prim.Native.Nat.{◌≤◌}
 use lib.ListN.{length}
 use Rattle.words.specs.Words.{words_in}

@@ -1,5 +1,5 @@
 -- Blocks that lie one behind another to the space's end are the blocks of the state that they tell of.
-use Rattle.std.specs.Prelude.{◌≡◌, refl, true, false, ◌&&◌, eqb, leb, ltb, length}
+use Rattle.std.specs.Prelude.{◌≡◌, refl, true, false, ◌&&◌, eqb, leb, ltb}
 use Rattle.std.proofs.Common.{sym, ap₂, ◌∙◌, add-zero, arith, ne_eqb, eqb-true, ltb-true, leb-true}
 use Rattle.std.proofs.Math.Path.{ap}
 use Rattle.std.proofs.Math.Option.{none}

@@ -1,26 +1,36 @@
--- The loop tries the nine sizes: none below the one at hand is the one asked for.
-use native.Mathlib.Omega.{arith}
-use Prim.Native.Nat.{◌-◌}
-use Rattle.machine.proofs.Laws.PageSizes.{none_tried, one_tried, size_made, none_made}
+-- The loop tries the nine sizes, from the least to the greatest.
+use Rattle.std.specs.Prelude.{◌≡◌, refl, ◌≤◌}
+use Rattle.std.proofs.Common.{arith}
+use lib.Count.{count_trailing_zeros}
+use Rattle.machine.proofs.Laws.PageSizes.{one_more, size_made, none_made, shifted_in}
 use Rattle.machine.proofs.PageSize.of.Goals as goal
 
-pub loop-size-init : goal.loop-size-init
-loop-size-init c = none_tried _
+least : count_trailing_zeros 32 256 ≡ 8
+unfolding count_trailing_zeros
+least = refl
 
-pub returns-then-bytes-size : goal.returns-then-bytes-size
-returns-then-bytes-size c = size_made _ _ _ c.loop-size.invariant c.loop-size-test.true c.if-bytes-size.true
+greatest : count_trailing_zeros 32 65536 ≡ 16
+unfolding count_trailing_zeros
+greatest = refl
 
-pub overflow_mul-size : goal.overflow_mul-size
-overflow_mul-size c = omega arith
+pub loop-shift-init : goal.loop-shift-init
+loop-shift-init c k l h = absurd (omega (arith, least))
 
-pub overflow_add-shift : goal.overflow_add-shift
-overflow_add-shift c = omega (arith, c.loop-size.invariant.most)
+pub returns-then-bytes-shift : goal.returns-then-bytes-shift
+returns-then-bytes-shift c =
+    let low : 8 ≤ c.loop-shift.shift = omega (arith, least) in
+    let high : c.loop-shift.shift ≤ 16 = omega (arith, greatest) in
+    size_made _ _ low high (rw (shifted_in _ high) at c.if-bytes-shift.true)
 
-pub loop-size-smaller : goal.loop-size-smaller
-loop-size-smaller c = omega (arith, (one_tried _ _ _ c.loop-size.invariant c.loop-size-test.true c.if-bytes-size.false).most)
-
-pub loop-size-preserved : goal.loop-size-preserved
-loop-size-preserved c = one_tried _ _ _ c.loop-size.invariant c.loop-size-test.true c.if-bytes-size.false
+pub loop-shift-preserved : goal.loop-shift-preserved
+loop-shift-preserved c =
+    let high : c.loop-shift.shift ≤ 16 = omega (arith, greatest) in
+    one_more _ _ c.loop-shift.invariant (rw (shifted_in _ high) at c.if-bytes-shift.false)
 
 pub returns : goal.returns
-returns c = none_made _ _ _ c.loop-size.invariant c.loop-size-test.false
+returns c = none_made _ (λ k l h. c.loop-shift.invariant k l (omega (arith, greatest)))
+
+pub returns-else-bytes-shift : goal.returns-else-bytes-shift
+returns-else-bytes-shift c =
+    let high : c.loop-shift.shift ≤ 16 = omega (arith, greatest) in
+    none_made _ (λ k l h. one_more _ _ c.loop-shift.invariant (rw (shifted_in _ high) at c.if-bytes-shift.false) k l (omega (arith, greatest)))

@@ -1,9 +1,6 @@
-use Prim.Native.Nat.{◌-◌}
-use Rattle.machine.proofs.Laws.PageSizes.{Tried}
+-- None of the sizes below the shift at hand is the one asked for.
+use Rattle.machine.proofs.Laws.PageSizes.{NoneBelow}
 use Rattle.machine.proofs.PageSize.of.Given as goal
 
-abbrev pub invariant-loop-size : goal.invariant-loop-size
-invariant-loop-size l = Tried l.bytes l.size l.shift
-
-abbrev pub decreases-loop-size : goal.decreases-loop-size
-decreases-loop-size l = 17 - l.shift
+abbrev pub invariant-loop-shift : goal.invariant-loop-shift
+invariant-loop-shift l = NoneBelow l.bytes l.shift

@@ -1,9 +1,0 @@
--- The two tests.
-use borrow.Author.Tests.{le-leb, lt-leb}
-use Rattle.fields.proofs.is_digit.Goals as goal
-
-pub returns-then-c-ge48 : goal.returns-then-c-ge48
-returns-then-c-ge48 c = rw (le-leb _ _ c.if-c-ge48.true)
-
-pub returns-else-c-ge48 : goal.returns-else-c-ge48
-returns-else-c-ge48 c = rw (lt-leb _ _ c.if-c-ge48.false)

@@ -1,6 +1,0 @@
--- The frame, then the words.
-use Rattle.digits.specs.Laws.{wrote_more}
-use Rattle.texts.proofs.put_new.Goals as goal
-
-pub returns : goal.returns
-returns c = wrote_more c.put_pair-next.ensures.wrote c.put_pair.ensures.wrote
