@@ -1,5 +1,5 @@
 // The board's entrance: the pager's calls with the head lent and changed in place.
-// Only a start and the reading of a map store the whole head. The other calls leave the sizes, a release and a hand-back the first
+// Only a start and the reading of a map that is accepted store the whole head. The other calls leave the sizes, a release and a hand-back the first
 // frame never used too, so they store no more than may change: the compiler can't tell head from tables, and would store all.
 #![tactic(auto)]
 
@@ -288,6 +288,7 @@ fn list_into(
 {
     let regions = survey(head, space, records.len(), index, count)?;
     let mut rest = regions;
+    // A `while`: the cursor itself counts down what is left.
     while 0 < rest.left {
         let told = last_region(index, count, rest);
         rest = told.rest;

@@ -75,6 +75,7 @@ pub(crate) fn answer_lines(
     let mut is_long = is_long;
     let mut from = 0;
     let mut at = 0;
+    // A `while`: a step is a line.
     while from < n {
         let line = line_at(input, from, n, is_last, is_long);
         if !line.is_whole {

@@ -67,6 +67,7 @@ fn pass_words(input: &[u8], from: usize, stop: usize) -> usize
 {
     let end = words_end(stop);
     let mut i = from;
+    // A `while`: a step is a word, and the last bytes are fewer.
     while i < end {
         let feeds = feeds_in(word_at(input, i));
         if feeds != 0 {
