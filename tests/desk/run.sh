@@ -13,15 +13,15 @@ fail() {
     exit 1
 }
 
-# Runs a command and keeps its status, output and errors; one that hangs is ended.
+# Runs a command and keeps its status, output and errors; one that hangs is ended. The limit is far above what any of them takes on a busy machine.
 run() {
     status=0
-    timeout "${limit:-30}" "$@" > "$bed/out" 2> "$bed/err" || status=$?
+    timeout "${limit:-150}" "$@" > "$bed/out" 2> "$bed/err" || status=$?
 }
 
 # Holds the last run to its status, and its output and errors to patterns.
 expect() { # CASE STATUS OUTPUT ERRORS
-    [ "$status" = "$2" ] || fail "$1: status $status, not $2: $(cat "$bed/err")"
+    [ "$status" = "$2" ] || fail "$1: status $status, not $2; errors: $(head -n 9 "$bed/err"); output: $(head -n 9 "$bed/out")"
     # shellcheck disable=SC2053
     [[ $(cat "$bed/out") == $3 ]] || fail "$1: its output is not what it should be: $(head -n 9 "$bed/out")"
     # shellcheck disable=SC2053
@@ -61,14 +61,15 @@ echo 'rt: running out/session_program; to give it other input, run that file you
 END
 }
 
-# An rt that is silent at first, then proves some crates, a dozen in half a second.
-make_slow_rt() { # CRATES
-    { echo "crates='$*'" && cat << 'END'; } | make_rt
+# An rt that is silent at first, then proves some crates, a dozen in half a second; after the first dozen not before the errors of the run have WORDS.
+make_slow_rt() { # WORDS CRATES
+    { echo "words='$1' crates='${*:2}' number=0" && cat << 'END'; } | make_rt
 sleep 3.2
 for crate in $crates; do
     echo "rt: chose --jobs 2 for $crate"
     echo 'logic=proved functions=1'
     sleep 0.04
+    [ $((number += 1)) != 12 ] || [ -z "$words" ] || until grep -q "$words" ../../err; do sleep 0.1; done
 done
 echo 'rt: running out/session_program; to give it other input, run that file yourself'
 END
@@ -307,7 +308,7 @@ expect "Ctrl-C while it proves" 130 $'started\r\n^C' ""
         echo "c$n: c$((n - 1))"
     done
 } > crates.txt
-make_slow_rt $(needed session_program)
+make_slow_rt 'session: 1. of 23' $(needed session_program)
 run ./session calls < /dev/null
 proving="session: proving session_program and all that it needs*$bed/target/session.log"
 ten="session: 1? of 23 crates proved, the last one c*; * s"
@@ -316,7 +317,7 @@ expect "progress in a file" 0 "played one" "$proving"$'\n'"$ten"$'\n'"session: 2
 cp "$root/crates.txt" .
 needed=$(needed session_program)
 crates=$(wc -w <<< "$needed")
-make_slow_rt $needed
+make_slow_rt "" $needed
 run "$here/terminal.py" -- ./session calls
 again=$'\r'"session: * of $crates crates proved"
 expect "progress at a terminal" 0 "$proving*$again*$again, the last one session_program; * s*played one*" ""

@@ -4,7 +4,7 @@
     terminal.py [WORDS KEYS]... -- COMMAND...
 
 KEYS are typed once WORDS have appeared at the terminal, pair after pair; they may have escapes, such as \\x04 for Ctrl-D. What the terminal shows is
-printed, and the command's status is the end's, as a shell gives it; a command that hasn't ended after 20 seconds is ended, with status 124.
+printed, and the command's status is the end's, as a shell gives it; a command that hasn't ended after LIMIT seconds is ended, with status 124.
 """
 import os
 import pty
@@ -13,11 +13,20 @@ import signal
 import sys
 import time
 
+# far above what any command here takes on a busy machine
+LIMIT = 100
 
-def shown_by(terminal, plan, until):
-    """What the terminal shows until its command ends; nothing more than that if the time is over."""
-    shown, seen = b"", 0
-    while select.select([terminal], [], [], max(0, until - time.time()))[0]:
+
+def shown_by(terminal, plan):
+    """What the terminal shows until its command ends, and whether it ended before the time was over."""
+    shown, seen, spent, now = b"", 0, 0, time.monotonic()
+    while spent < LIMIT:
+        ready = select.select([terminal], [], [], 1)[0]
+        # a clock that leaps, as where a whole machine stood still, costs a second at most
+        before, now = now, time.monotonic()
+        spent += min(now - before, 1)
+        if not ready:
+            continue
         try:
             shown += os.read(terminal, 4096)
         except OSError:  # nobody has the terminal open any more
@@ -34,8 +43,9 @@ def main():
     child, terminal = pty.fork()
     if child == 0:
         os.execvp(sys.argv[at + 1], sys.argv[at + 1:])
-    shown, ended = shown_by(terminal, sys.argv[1:at], time.time() + 20)
+    shown, ended = shown_by(terminal, sys.argv[1:at])
     if not ended:
+        print(f"terminal.py: no end after {LIMIT} seconds", file=sys.stderr)
         os.kill(child, signal.SIGKILL)
     status = os.waitstatus_to_exitcode(os.waitpid(child, 0)[1])
     sys.stdout.buffer.write(shown)
