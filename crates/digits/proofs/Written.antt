@@ -1,4 +1,4 @@
--- One byte or number more, and the digits of a number.
+-- One store more, one byte or number more, and the digits of a number.
 use mathlib.Core.Path.{◌≡◌, refl, sym, ap}
 use mathlib.Core.List.{List, [], ◌∷◌, ◌++◌, append_assoc, append-nil}
 use Prim.Native.Nat.{ℕ, zero, suc, ◌+◌, ◌/◌, ◌%◌, ◌^◌, ◌≤◌, ◌<◌}
@@ -6,14 +6,26 @@ use native.Mathlib.Nat.{mod-eq_of_lt, pow-suc}
 use native.Mathlib.Numerals.{add-one, unary_clauses}
 use native.Mathlib.Omega.{arith}
 use borrow.Author.Tests.{lt-ltb, le-ltb}
-use lib.ListN.{length, take, get_or}
-use lib.Seq.{take-suc}
+use lib.ListN.{length, take, set, get_or, length-set}
+use lib.Seq.{take-suc, set_split}
 use Rattle.io.specs.Digits.{hex_digit_ascii, last_digits, IsDigitCount}
 use Rattle.digits.specs.Text.{decimal, decimal_with, hex_text, numbers_text, blank}
+use Rattle.digits.specs.Writing.{Wrote}
+use Rattle.digits.specs.Laws.{wrote_more}
+
+-- ---- writing
+
+-- one store
+pub wrote_one : (at c : ℕ) (out : List ℕ) → at < length out → Wrote at out (c ∷ []) (at + 1) (set out at c)
+wrote_one at c out h = record { long = length-set out at c; end_is = refl; out_is = rw add-one (set_split out at c h) }
+
+-- one store more
+pub wrote_next : {at e : ℕ} {out cs out₁ : List ℕ} (c : ℕ) → Wrote at out cs e out₁ → e < length out → Wrote at out (cs ++ (c ∷ [])) (e + 1) (set out₁ e c)
+wrote_next {at} {e} {out} {cs} {out₁} c a h = wrote_more a (wrote_one e c out₁ (omega (arith, a.long)))
 
 -- ---- one more of a list
 
-take_more : (xs : List ℕ) (i : ℕ) → i < length xs → take (i + 1) xs ≡ take i xs ++ (get_or xs i 0 ∷ [])
+pub take_more : (xs : List ℕ) (i : ℕ) → i < length xs → take (i + 1) xs ≡ take i xs ++ (get_or xs i 0 ∷ [])
 take_more xs i h = rw add-one (take-suc xs i 0 h)
 
 hex_append : (xs ys : List ℕ) → hex_text (xs ++ ys) ≡ hex_text xs ++ hex_text ys
@@ -22,9 +34,9 @@ hex_append [] ys = refl
 hex_append (v ∷ xs) ys = ap (λ (l : List ℕ). hex_digit_ascii (v / 16) ∷ hex_digit_ascii (v % 16) ∷ l) (hex_append xs ys)
 
 pub hex_more : (xs : List ℕ) (i : ℕ) → i < length xs
-    → hex_text (take (i + 1) xs) ≡ hex_text (take i xs) ++ (hex_digit_ascii (get_or xs i 0 / 16) ∷ hex_digit_ascii (get_or xs i 0 % 16) ∷ [])
+    → hex_text (take (i + 1) xs) ≡ (hex_text (take i xs) ++ (hex_digit_ascii (get_or xs i 0 / 16) ∷ [])) ++ (hex_digit_ascii (get_or xs i 0 % 16) ∷ [])
 unfolding hex_text
-hex_more xs i h = rw (take_more xs i h, hex_append)
+hex_more xs i h = rw (take_more xs i h, hex_append, append_assoc)
 
 numbers_append : (xs ys : List ℕ) → numbers_text (xs ++ ys) ≡ numbers_text xs ++ numbers_text ys
 unfolding numbers_text

@@ -4,7 +4,7 @@
 ghost use Rattle.std.specs.Prelude.{◌≡◌, ◌++◌, ◌+◌, ◌*◌, ◌%◌, ◌≤◌, leb, length};
 ghost use Rattle.io.specs.Digits.{hex_digit_ascii};
 ghost use Rattle.digits.specs.Text.{decimal, hex_text, numbers_text};
-ghost use Rattle.digits.specs.Writing.{Added};
+ghost use Rattle.digits.specs.Writing.{Wrote, Added};
 
 // A lent buffer, and how much of it is written.
 #[derive(Drop)]
@@ -26,6 +26,17 @@ fn last_digit(n: u64) -> u8
     ensures { result ≡ hex_digit_ascii (n % 10) }
 {
     hex_digit((n % 10) as u8)
+}
+
+// Bytes from a place of a buffer on, two hex digits each. Digits are stored one by one: as words of two they take several times as long.
+fn write_hex(out: &mut [u8], at: usize, bytes: &[u8])
+    requires { at + 2 * length bytes.now ≤ length out.old }
+    ensures { Wrote at out.old (hex_text bytes.now) (at + 2 * length bytes.now) out.new }
+{
+    for (i, b) in bytes.iter().enumerate() {
+        out[at + 2 * i] = hex_digit(b / 16);
+        out[at + 2 * i + 1] = hex_digit(b % 16);
+    }
 }
 
 impl<'a> Text<'a> {
@@ -80,9 +91,8 @@ impl<'a> Text<'a> {
         requires { self.old.at + 2 * length bytes.now ≤ length self.old.out.now }
         ensures { Added self.old (hex_text bytes.now) self.new }
     {
-        for b in bytes {
-            self.put(&[hex_digit(b / 16), hex_digit(b % 16)]);
-        }
+        write_hex(self.out, self.at, bytes);
+        self.at += 2 * bytes.len();
     }
 
     // A word, then a number.

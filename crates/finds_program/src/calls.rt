@@ -74,6 +74,6 @@ pub(crate) fn find(index: &[u64], t: usize, p: usize) {
             },
         ) => read(line.and(b" start ", q), words),
         Ok(Greatest { place: None, words }) => line.and(b" none words ", words as usize).end(b""),
-        Err(why) => read(line.and(b" no ", why.number() as usize), 0),
+        Err(no) => read(line.and(b" no ", no.refusal.number() as usize), no.words),
     }
 }

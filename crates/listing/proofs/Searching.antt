@@ -6,27 +6,26 @@ use Rattle.std.proofs.Math.Option.{Option, none, some}
 use Rattle.places.specs.Places.{last_below, words_read}
 use Rattle.places.specs.Laws.{Last, below_last, below_none}
 use Rattle.extent.specs.Checks.{check}
-use Rattle.refusals.specs.declared.Refusal.{Refusal}
-use Rattle.refusals.specs.Refusals.{answered}
+use Rattle.index.specs.declared.RefusedFind.{RefusedFind}
 use Rattle.layer.specs.declared.Greatest.{Greatest}
-use Rattle.index.specs.Answers.{greatest_at, find}
+use Rattle.index.specs.Answers.{greatest_at, find, found as index_found}
 use Rattle.index.specs.Promise.{Sought, Bounded}
 use Rattle.machine.specs.Machine.{State, is_start}
 use Rattle.listing.specs.Steps.{Indexed, StartBelow}
 
 module _ (t lo e : ℕ) (ws : List ℕ) where
   module _ (low : e ≤ t) (some_pages : lo < e) where
-    honest : {f : Result Greatest Refusal} → Sought t (e - 1) ws f → (m : State) → Indexed m t ws
+    honest : {f : Result Greatest RefusedFind} → Sought t (e - 1) ws f → (m : State) → Indexed m t ws
         → f ≡ Ok (greatest_at (last_below (is_start m) e) (words_read t (is_start m) (e - 1)))
     unfolding find
     honest sought m x =
         let s = is_start m in
         let here : suc (e - 1) ≡ e = omega arith in
         sought.right s x.index_is
-        ∙ ap (λ (n : ℕ). answered n (find t s (e - 1))) (x.passes (e - 1) (omega arith))
+        ∙ ap (λ (n : ℕ). index_found n (find t s (e - 1))) (x.passes (e - 1) (omega arith))
         ∙ ap (λ (n : ℕ). Ok (greatest_at (last_below s n) (words_read t s (e - 1)))) here
 
-    module _ {f : Result Greatest Refusal} {g : Greatest} (sought : Sought t (e - 1) ws f) (good : Some g ≡ result_ok f) where
+    module _ {f : Result Greatest RefusedFind} {g : Greatest} (sought : Sought t (e - 1) ws f) (good : Some g ≡ result_ok f) where
       place_is : (m : State) → Indexed m t ws → g.place ≡ (greatest_at (last_below (is_start m) e) (words_read t (is_start m) (e - 1))).place
       place_is m x =
           let is = rw (honest sought m x) at good in
@@ -45,7 +44,7 @@ module _ (t lo e : ℕ) (ws : List ℕ) where
         found_low : a < e
         found_low = go (check (length ws) t (e - 1)) f good sought.any
           where
-            go : (n : ℕ) (f : Result Greatest Refusal) → Some g ≡ result_ok f → Bounded n t (e - 1) f → a < e
+            go : (n : ℕ) (f : Result Greatest RefusedFind) → Some g ≡ result_ok f → Bounded n t (e - 1) f → a < e
             go zero (Ok h) is b =
                 let same : h.place ≡ Some a = (let here : h ≡ g = cc in rw here found) in
                 let inside = rw same at b.0 in

@@ -38,8 +38,8 @@ fn start_below(index: &[u64], t: usize, lo: usize, end: usize) -> Option<usize>
     if end <= lo {
         return None;
     }
-    let found = index::find(index, t, end - 1).ok()?;
-    let a = found.place?;
+    extent::check(index.len(), t, end - 1).ok()?;
+    let a = index::find_checked(index, t, end - 1).place?;
     if a < lo {
         return None;
     }

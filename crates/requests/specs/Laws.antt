@@ -2,8 +2,8 @@
 use Rattle.std.specs.Prelude.{◌≡◌, refl, List, [], ◌∷◌, ◌++◌, ℕ, zero, suc, ◌+◌, ◌*◌, ◌≤◌, length, drop, Result, Ok, Err}
 use Rattle.std.proofs.Common.{ap, arith}
 use Rattle.machine.specs.declared.Region.{Region}
-use Rattle.machine.specs.Answers.{listed_says}
-use Rattle.refusals.specs.declared.Refusal.{Refusal}
+use Rattle.machine.specs.Machine.{Answer, regions}
+use Rattle.machine.specs.Answers.{says_of}
 use Rattle.promise.specs.Filled.{records_in, records_filled}
 use Rattle.requests.specs.Codes.{encoded}
 use Rattle.requests.specs.Requests.{region_numbers}
@@ -26,7 +26,7 @@ records_numbers (suc n) (a ∷ b ∷ c ∷ ws) h =
     rw e (ap (λ (xs : List ℕ). a ∷ b ∷ c ∷ xs) (records_numbers n ws (omega arith)))
 
 -- how many records a list tells of is all that its numbers say of them
-pub listed_numbers : (a : Result ℕ Refusal) (rs : List Region) → length rs ≡ records_filled a
-    → encoded (listed_says a (records_in (records_filled a) [])) ≡ encoded (listed_says a rs)
-listed_numbers (Ok n) rs long = rw (records_length n [], long)
-listed_numbers (Err e) rs long = refl
+pub listed_numbers : {E : Type 0} (why : E → Answer) (a : Result ℕ E) (rs : List Region) → length rs ≡ records_filled a
+    → encoded (says_of why (λ _. regions (records_in (records_filled a) [])) a) ≡ encoded (says_of why (λ _. regions rs) a)
+listed_numbers why (Ok n) rs long = rw (records_length n [], long)
+listed_numbers why (Err e) rs long = refl

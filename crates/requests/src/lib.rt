@@ -2,12 +2,10 @@
 #![tactic(auto)]
 
 ghost use Rattle.std.specs.Prelude.{List, [], ◌∷◌, ◌≡◌, ℕ, length, take};
-ghost use Rattle.machine.specs.Answers.{done_says, touched_says, looked_says, released_says, free_says, translated_says, copied_says, listed_says, map_written_says};
-ghost use Rattle.machine.specs.Answers.{fullness_says, given_back_says};
+ghost use Rattle.machine.specs.Machine as machine;
+ghost use Rattle.machine.specs.Answers.{says_of, refusal_says, refused_after_says, touched_tells, looked_tells};
 ghost use Rattle.machine.specs.declared.Region.{Region};
 ghost use Rattle.promise.specs.Filled.{records_in, records_filled, bytes_filled};
-ghost use Rattle.refusals.specs.Refusals.{number};
-ghost use Rattle.requests.specs.declared.Reply.TheVariants as reply_is;
 ghost use Rattle.requests.specs.Requests.{replied};
 ghost use Rattle.requests.specs.Codes.{encoded, numbers_of};
 
@@ -58,90 +56,120 @@ pub struct Answer {
 
 // ---- the answer of each kind of call as a reply
 
-fn refused(no: Refusal) -> Reply
-    ensures { result ≡ reply_is.Refused (number no) }
-{
-    Reply::Refused(no.number())
+// Why a call is refused: by name, or by any number; of touch and look with the index words read.
+pub trait Reason {
+    // what it answers
+    ghost says: { Self → machine.Answer };
+
+    fn reply(self) -> Reply
+        ensures { (buffer records : List ℕ) → replied result buffer records ≡ says self };
 }
 
-fn refused_after(no: RefusedAfter) -> Reply
-    ensures { result ≡ reply_is.RefusedAfter (number no.refusal) no.words }
-{
-    Reply::RefusedAfter(no.refusal.number(), no.words)
+impl Reason for Refusal {
+    ghost says = { refusal_says };
+
+    fn reply(self) -> Reply {
+        Reply::Refused(self.number())
+    }
 }
 
-pub fn of_done(a: Result<(), Refusal>) -> Reply
-    ensures { (buffer records : List ℕ) → replied result buffer records ≡ done_says a }
-{
-    a.map_or_else(refused, |()| Reply::Done)
+impl Reason for u32 {
+    ghost says = { machine.refused };
+
+    fn reply(self) -> Reply {
+        Reply::Refused(self)
+    }
 }
 
-pub fn of_touched(a: Result<Touched, RefusedAfter>) -> Reply
-    ensures { (buffer records : List ℕ) → replied result buffer records ≡ touched_says a }
+impl Reason for RefusedAfter {
+    ghost says = { refused_after_says };
+
+    fn reply(self) -> Reply {
+        Reply::RefusedAfter(self.refusal.number(), self.words)
+    }
+}
+
+impl Reason for (u32, u32) {
+    ghost says = { λ e. machine.refused_after e.0 e.1 };
+
+    fn reply(self) -> Reply {
+        Reply::RefusedAfter(self.0, self.1)
+    }
+}
+
+pub fn of_done<R: Reason>(a: Result<(), R>) -> Reply
+    ensures { (buffer records : List ℕ) → replied result buffer records ≡ says_of R.says (λ _. machine.done) a }
+{
+    a.map_or_else(R::reply, |()| Reply::Done)
+}
+
+pub fn of_touched<R: Reason>(a: Result<Touched, R>) -> Reply
+    ensures { (buffer records : List ℕ) → replied result buffer records ≡ says_of R.says touched_tells a }
 {
     match a {
         Ok(Touched::Old(f)) => Reply::Old(f),
         Ok(Touched::New(f, w)) => Reply::New(f, w),
-        Err(no) => refused_after(no),
+        Err(no) => no.reply(),
     }
 }
 
-pub fn of_looked(a: Result<Looked, RefusedAfter>) -> Reply
-    ensures { (buffer records : List ℕ) → replied result buffer records ≡ looked_says a }
+pub fn of_looked<R: Reason>(a: Result<Looked, R>) -> Reply
+    ensures { (buffer records : List ℕ) → replied result buffer records ≡ says_of R.says looked_tells a }
 {
     match a {
         Ok(Looked::Resident(f)) => Reply::Resident(f),
         Ok(Looked::Absent(w)) => Reply::Absent(w),
-        Err(no) => refused_after(no),
+        Err(no) => no.reply(),
     }
 }
 
-pub fn of_released(a: Result<u32, Refusal>) -> Reply
-    ensures { (buffer records : List ℕ) → replied result buffer records ≡ released_says a }
+pub fn of_released<R: Reason>(a: Result<u32, R>) -> Reply
+    ensures { (buffer records : List ℕ) → replied result buffer records ≡ says_of R.says machine.pages a }
 {
-    a.map_or_else(refused, Reply::Pages)
+    a.map_or_else(R::reply, Reply::Pages)
 }
 
-pub fn of_given_back(a: Result<(), Refusal>) -> Reply
-    ensures { (buffer records : List ℕ) → replied result buffer records ≡ given_back_says a }
+pub fn of_given_back<R: Reason>(a: Result<(), R>) -> Reply
+    ensures { (buffer records : List ℕ) → replied result buffer records ≡ says_of R.says (λ _. machine.handed) a }
 {
-    a.map_or_else(refused, |()| Reply::Handed)
+    a.map_or_else(R::reply, |()| Reply::Handed)
 }
 
-pub fn of_free(a: Result<u32, Refusal>) -> Reply
-    ensures { (buffer records : List ℕ) → replied result buffer records ≡ free_says a }
+pub fn of_free<R: Reason>(a: Result<u32, R>) -> Reply
+    ensures { (buffer records : List ℕ) → replied result buffer records ≡ says_of R.says machine.frames a }
 {
-    a.map_or_else(refused, Reply::Frames)
+    a.map_or_else(R::reply, Reply::Frames)
 }
 
-pub fn of_translated(a: Result<usize, Refusal>) -> Reply
-    ensures { (buffer records : List ℕ) → replied result buffer records ≡ translated_says a }
+pub fn of_translated<R: Reason>(a: Result<usize, R>) -> Reply
+    ensures { (buffer records : List ℕ) → replied result buffer records ≡ says_of R.says machine.at a }
 {
-    a.map_or_else(refused, Reply::At)
+    a.map_or_else(R::reply, Reply::At)
 }
 
-pub fn of_copied(a: Result<(), Refusal>) -> Reply
-    ensures { (buffer records : List ℕ) → replied result buffer records ≡ copied_says a buffer }
+pub fn of_copied<R: Reason>(a: Result<(), R>) -> Reply
+    ensures { (buffer records : List ℕ) → replied result buffer records ≡ says_of R.says (λ _. machine.bytes buffer) a }
 {
-    a.map_or_else(refused, |()| Reply::Bytes)
+    a.map_or_else(R::reply, |()| Reply::Bytes)
 }
 
-pub fn of_listed(a: Result<u32, Refusal>) -> Reply
-    ensures { (buffer records : List ℕ) → replied result buffer records ≡ listed_says a (records_in (records_filled a) records) }
+pub fn of_listed<R: Reason>(a: Result<u32, R>) -> Reply
+    ensures { (buffer records : List ℕ) →
+        replied result buffer records ≡ says_of R.says (λ _. machine.regions (records_in (records_filled a) records)) a }
 {
-    a.map_or_else(refused, Reply::Regions)
+    a.map_or_else(R::reply, Reply::Regions)
 }
 
-pub fn of_written(a: Result<u32, Refusal>) -> Reply
-    ensures { (buffer records : List ℕ) → replied result buffer records ≡ map_written_says a (take (bytes_filled a) buffer) }
+pub fn of_written<R: Reason>(a: Result<u32, R>) -> Reply
+    ensures { (buffer records : List ℕ) → replied result buffer records ≡ says_of R.says (λ _. machine.map_file (take (bytes_filled a) buffer)) a }
 {
-    a.map_or_else(refused, Reply::Map)
+    a.map_or_else(R::reply, Reply::Map)
 }
 
-pub fn of_fullness(full: Result<u32, Refusal>) -> Reply
-    ensures { (buffer records : List ℕ) → replied result buffer records ≡ fullness_says full }
+pub fn of_fullness<R: Reason>(full: Result<u32, R>) -> Reply
+    ensures { (buffer records : List ℕ) → replied result buffer records ≡ says_of R.says machine.pages full }
 {
-    full.map_or_else(refused, Reply::Pages)
+    full.map_or_else(R::reply, Reply::Pages)
 }
 
 // ---- a reply as numbers
@@ -183,70 +211,70 @@ pub fn encode(reply: Reply, n: usize) -> Answer
 
 // ---- the answer of each kind of call as numbers
 
-pub fn encode_done(a: Result<(), Refusal>) -> Answer
-    ensures { numbers_of result ≡ encoded (done_says a) }
+pub fn encode_done<R: Reason>(a: Result<(), R>) -> Answer
+    ensures { numbers_of result ≡ encoded (says_of R.says (λ _. machine.done) a) }
 {
     encode(of_done(a), 0)
 }
 
-pub fn encode_touched(a: Result<Touched, RefusedAfter>) -> Answer
-    ensures { numbers_of result ≡ encoded (touched_says a) }
+pub fn encode_touched<R: Reason>(a: Result<Touched, R>) -> Answer
+    ensures { numbers_of result ≡ encoded (says_of R.says touched_tells a) }
 {
     encode(of_touched(a), 0)
 }
 
-pub fn encode_looked(a: Result<Looked, RefusedAfter>) -> Answer
-    ensures { numbers_of result ≡ encoded (looked_says a) }
+pub fn encode_looked<R: Reason>(a: Result<Looked, R>) -> Answer
+    ensures { numbers_of result ≡ encoded (says_of R.says looked_tells a) }
 {
     encode(of_looked(a), 0)
 }
 
-pub fn encode_released(a: Result<u32, Refusal>) -> Answer
-    ensures { numbers_of result ≡ encoded (released_says a) }
+pub fn encode_released<R: Reason>(a: Result<u32, R>) -> Answer
+    ensures { numbers_of result ≡ encoded (says_of R.says machine.pages a) }
 {
     encode(of_released(a), 0)
 }
 
-pub fn encode_given_back(a: Result<(), Refusal>) -> Answer
-    ensures { numbers_of result ≡ encoded (given_back_says a) }
+pub fn encode_given_back<R: Reason>(a: Result<(), R>) -> Answer
+    ensures { numbers_of result ≡ encoded (says_of R.says (λ _. machine.handed) a) }
 {
     encode(of_given_back(a), 0)
 }
 
-pub fn encode_free(a: Result<u32, Refusal>) -> Answer
-    ensures { numbers_of result ≡ encoded (free_says a) }
+pub fn encode_free<R: Reason>(a: Result<u32, R>) -> Answer
+    ensures { numbers_of result ≡ encoded (says_of R.says machine.frames a) }
 {
     encode(of_free(a), 0)
 }
 
-pub fn encode_translated(a: Result<usize, Refusal>) -> Answer
-    ensures { numbers_of result ≡ encoded (translated_says a) }
+pub fn encode_translated<R: Reason>(a: Result<usize, R>) -> Answer
+    ensures { numbers_of result ≡ encoded (says_of R.says machine.at a) }
 {
     encode(of_translated(a), 0)
 }
 
 // A read into a buffer of n bytes.
-pub fn encode_copied(a: Result<(), Refusal>, n: usize) -> Answer
-    ensures { (buffer : List ℕ) → length buffer ≡ n → numbers_of result ≡ encoded (copied_says a buffer) }
+pub fn encode_copied<R: Reason>(a: Result<(), R>, n: usize) -> Answer
+    ensures { (buffer : List ℕ) → length buffer ≡ n → numbers_of result ≡ encoded (says_of R.says (λ _. machine.bytes buffer) a) }
 {
     encode(of_copied(a), n)
 }
 
-pub fn encode_listed(a: Result<u32, Refusal>) -> Answer
-    ensures { (records : List Region) → length records ≡ records_filled a → numbers_of result ≡ encoded (listed_says a records) }
+pub fn encode_listed<R: Reason>(a: Result<u32, R>) -> Answer
+    ensures { (records : List Region) → length records ≡ records_filled a → numbers_of result ≡ encoded (says_of R.says (λ _. machine.regions records) a) }
 {
     encode(of_listed(a), 0)
 }
 
 // A map into a buffer of n bytes.
-pub fn encode_written(a: Result<u32, Refusal>, n: usize) -> Answer
-    ensures { (buffer : List ℕ) → length buffer ≡ n → numbers_of result ≡ encoded (map_written_says a (take (bytes_filled a) buffer)) }
+pub fn encode_written<R: Reason>(a: Result<u32, R>, n: usize) -> Answer
+    ensures { (buffer : List ℕ) → length buffer ≡ n → numbers_of result ≡ encoded (says_of R.says (λ _. machine.map_file (take (bytes_filled a) buffer)) a) }
 {
     encode(of_written(a), n)
 }
 
-pub fn encode_fullness(a: Result<u32, Refusal>) -> Answer
-    ensures { numbers_of result ≡ encoded (fullness_says a) }
+pub fn encode_fullness<R: Reason>(a: Result<u32, R>) -> Answer
+    ensures { numbers_of result ≡ encoded (says_of R.says machine.pages a) }
 {
     encode(of_fullness(a), 0)
 }

@@ -122,6 +122,21 @@ module _ {all xs ys : List ℕ} (p : Splits all xs ys) where
         next = omega (arith, d.next, e.next, ap length p.is, length-append xs ys);
       }
 
+-- ---- some words at once
+
+pub two_stored : {file one two : List ℕ} {at a b : ℕ} → one ≡ put_word file at a → two ≡ put_word one (at + 1) b → Stored file at (a ∷ b ∷ []) two (at + 2)
+two_stored {file} {one} {two} {at} {a} {b} d e =
+    let on : at + 1 + 1 ≡ at + 2 = omega arith in
+    rw on at (all_stored (one_stored (one_stored (none_stored file at (a ∷ b ∷ []) (a ∷ b ∷ []) refl) d) e))
+
+pub three_stored : {file two three : List ℕ} {at a b c : ℕ} → Stored file at (a ∷ b ∷ []) two (at + 2) → three ≡ put_word two (at + 2) c
+    → Stored file at (a ∷ b ∷ c ∷ []) three (at + 3)
+three_stored {file} {two} {three} {at} {a} {b} {c} d e =
+    let on : at + 2 + 1 ≡ at + 3 = omega arith in
+    let s = none_stored file at (a ∷ b ∷ c ∷ []) (a ∷ b ∷ c ∷ []) refl in
+    let p : Splits (a ∷ b ∷ c ∷ []) (a ∷ b ∷ []) (c ∷ []) = record { is = refl } in
+    rw on at (all_stored (one_stored (part_stored s p d) e))
+
 -- one word after those stored
 pub then_one_stored : {file file' file'' ws : List ℕ} {at at' next : ℕ} (w : ℕ) → Stored file at ws file' at' → file'' ≡ put_word file' at' w
     → next ≡ at' + 1 → Stored file at (ws ++ (w ∷ [])) file'' next

@@ -6,8 +6,9 @@ use Prim.Native.Nat.{ℕ}
 use lib.ListN.{length}
 use Rattle.std.specs.Prelude.{Result, Ok, Err}
 use Rattle.refusals.specs.declared.Refusal.{Refusal}
+use Rattle.refusals.specs.Refusals.{number}
 use Rattle.machine.specs.Machine.{Answer, refused, start}
-use Rattle.machine.specs.Answers.{page_size_says, page_size_for}
+use Rattle.machine.specs.Answers.{done_says, page_size_says, page_size_for}
 use Rattle.machine.specs.declared.PageSize.{PageSize}
 use Rattle.memory.specs.Memory.{memory}
 use Rattle.memory.specs.declared.Head.{Head}
@@ -20,6 +21,11 @@ use Rattle.starting.proofs.Started.{start_did}
 use Rattle.machine.specs.Machine.{sizes}
 use Rattle.starting.specs.Steps.{Beginnable, BeginsAs}
 use Rattle.starting.specs.Models.{Starts}
+
+-- a start that is refused by name says its number
+pub refused_so : {head h' : Head} {no : Refusal} {a : Result (Unit {0}) Refusal} → (h' ≡ head) × (a ≡ Err no)
+    → (h' ≡ head) × (done_says a ≡ refused (number no))
+refused_so r = (r.0, ap done_says r.1)
 
 -- the whole call, from the page size made of the bytes asked for
 

@@ -1,7 +1,7 @@
 // Starting: the sizes set, the index and the resident counts prepared. Marking shares the lengths that it tests, the reading of a map what begins.
 #![tactic(auto)]
 
-ghost use Rattle.std.specs.Prelude.{◌≡◌, List, ◌++◌, ℕ, ◌≤◌, length, drop as dropped, replicate};
+ghost use Rattle.std.specs.Prelude.{◌≡◌, List, ◌++◌, ℕ, ◌≤◌, length, drop as dropped, replicate, Err};
 ghost use Rattle.machine.specs.Machine as machine;
 ghost use Rattle.machine.specs.Machine.{sizes};
 ghost use Rattle.machine.specs.Answers.{done_says};
@@ -10,7 +10,6 @@ ghost use Rattle.promise.specs.Did.{Did};
 ghost use Rattle.laws.specs.Models.{lent_to};
 ghost use Rattle.starting.specs.Models.{change_says};
 ghost use Rattle.starting.specs.Steps.{Beginnable, BeginsAs};
-ghost use Rattle.refusals.specs.Refusals.{number};
 
 use checks::{all_places, check};
 use machine::PageSize;
@@ -33,9 +32,9 @@ pub fn lent(index: usize, count: usize) -> Lengths
     }
 }
 
-// A refused start gives the head back as it was.
-pub fn not_started(head: Head, no: Refusal) -> Out<Result<(), Refusal>>
-    ensures { (result.head ≡ head) × (done_says result.answer ≡ machine.refused (number no)) }
+// A refused start gives the head back as it was; why it is refused may be told by name or by any number.
+pub fn not_started<E>(head: Head, no: E) -> Out<Result<(), E>>
+    ensures { (result.head ≡ head) × (result.answer ≡ Err no) }
 {
     Out {
         head,

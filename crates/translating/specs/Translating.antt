@@ -101,7 +101,7 @@ module _ (i x : ℕ) (k : Memory) where
       honest m h = address_found m k h i x look_passes found looked_there
 
       -- on any memory
-      frame_below : (f : ℕ) → found ≡ Ok (Resident f) → f < z.frames
+      pub frame_below : (f : ℕ) → found ≡ Ok (Resident f) → f < z.frames
       frame_below f e = (subst (λ (r : Result Looked RefusedAfter). Later z (look i (x / z.page) (lengths k)) (looked_says r)) e later).1
 
       pub translate_refused : (e : Refusal) → Err e ≡ frame_seen found → Did (translate i x) k (refused (number e)) k

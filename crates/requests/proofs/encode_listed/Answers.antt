@@ -6,5 +6,5 @@ use Rattle.requests.specs.Laws.{listed_numbers}
 use Rattle.requests.proofs.encode_listed.Goals as goal
 
 pub returns : goal.returns
-returns c =
-    λ records e. (c.encode.ensures [] [] refl) ∙ ap encoded (c.of_listed.ensures [] []) ∙ listed_numbers c.args.a records e
+returns o c =
+    λ records e. (c.encode.ensures [] [] refl) ∙ ap encoded (c.of_listed.ensures [] []) ∙ listed_numbers _ c.args.a records e

@@ -5,4 +5,4 @@ use Rattle.requests.specs.Codes.{encoded}
 use Rattle.requests.proofs.encode_touched.Goals as goal
 
 pub returns : goal.returns
-returns c = (c.encode.ensures [] [] refl) ∙ ap encoded (c.of_touched.ensures [] [])
+returns o c = (c.encode.ensures [] [] refl) ∙ ap encoded (c.of_touched.ensures [] [])

@@ -5,4 +5,4 @@ use Rattle.requests.specs.Codes.{encoded}
 use Rattle.requests.proofs.encode_written.Goals as goal
 
 pub returns : goal.returns
-returns c = λ buffer e. (c.encode.ensures buffer [] e) ∙ ap encoded (c.of_written.ensures buffer [])
+returns o c = λ buffer e. (c.encode.ensures buffer [] e) ∙ ap encoded (c.of_written.ensures buffer [])

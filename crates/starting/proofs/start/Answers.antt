@@ -1,15 +1,15 @@
 -- The page size, the check, then what begins.
 use Rattle.std.specs.Prelude.{refl}
 use Rattle.refusals.proofs.Laws.{not_none}
-use Rattle.starting.proofs.Begins.{start_no_size, start_refused, start_ready, start_begun}
+use Rattle.starting.proofs.Begins.{refused_so, start_no_size, start_refused, start_ready, start_begun}
 use Rattle.starting.proofs.start.Goals as goal
 
 pub returns-in_default : goal.returns-in_default
-returns-in_default c = start_no_size _ _ _ _ _ _ _ _ c.of.ensures _ _ _ c.in_default.is c.not_started.ensures
+returns-in_default c = start_no_size _ _ _ _ _ _ _ _ c.of.ensures _ _ _ c.in_default.is (refused_so c.not_started.ensures)
 
 pub returns-in-Err : goal.returns-in-Err
 returns-in-Err c =
-    start_refused _ _ _ _ _ _ _ _ c.of.ensures _ c.in-Ok.is _ _ c.lent.ensures c.in-Err.ensures _ _ (not_none _) c.not_started-in-Err.ensures
+    start_refused _ _ _ _ _ _ _ _ c.of.ensures _ c.in-Ok.is _ _ c.lent.ensures c.in-Err.ensures _ _ (not_none _) (refused_so c.not_started-in-Err.ensures)
 
 pub begin-requires : goal.begin-requires
 begin-requires c = start_ready _ _ _ _ 0 c.lent.ensures c.in_default-check.ensures refl
