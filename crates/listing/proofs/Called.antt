@@ -5,6 +5,7 @@ use Rattle.machine.specs.Machine.{places, place_of, sizes_ok, State, records_of,
 use Rattle.machine.proofs.Laws.Sizes.{fit}
 use Rattle.refusals.specs.declared.Refusal.{Refusal}
 use Rattle.refusals.specs.Refusals.{number}
+use Rattle.refusals.proofs.Laws.{not_none}
 use Rattle.memory.specs.Memory.{Memory, memory, sizes_of}
 use Rattle.memory.specs.declared.Head.{Head}
 use Rattle.promise.specs.Holds.{Holds}
@@ -37,7 +38,8 @@ module _ (h : Head) (index count i : ℕ) (checked : ◌≡◌ {A = ℕ} 0 (chec
 
 module _ (h : Head) (ws count : List ℕ) (i room : ℕ) where
   pub refused_early : (e : Refusal) → number e ≡ check_of h (lent_to (length ws) (length count)) i true → Lists h i room ws count (refused (number e))
-  refused_early e checked table helper stack cache link ram = list_refused i room (memory h ws count table helper stack cache link ram) e checked
+  refused_early e checked table helper stack cache link ram =
+      list_refused i room (memory h ws count table helper stack cache link ram) (number e) checked (not_none e)
 
   -- once the check passed, and the regions are counted
   module _ (checked : ◌≡◌ {A = ℕ} 0 (check_of h (lent_to (length ws) (length count)) i true)) (t lo w : ℕ) (t-is : t ≡ places (sizes_of h))

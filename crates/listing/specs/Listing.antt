@@ -13,9 +13,6 @@ use Rattle.machine.specs.declared.PageCall.TheVariants.{Mark}
 use Rattle.machine.specs.Machine.{State, sizes_ok, is_start, region, until_start, records, records_of, list_if, Answer, list, asked, accepted, refused, regions}
 use Rattle.machine.proofs.Laws.Sizes.{fit}
 use Rattle.machine.specs.declared.Region.{Region}
-use Rattle.refusals.specs.declared.Refusal.{Refusal}
-use Rattle.refusals.specs.Refusals.{number}
-use Rattle.refusals.proofs.Laws.{not_none}
 use Rattle.memory.specs.Memory.{Memory, sizes_of, lengths}
 use Rattle.promise.specs.Holds.{Holds}
 use Rattle.promise.specs.Did.{Later, Did}
@@ -110,12 +107,9 @@ list_check k i room = go (sizes_ok (sizes_of k.head)) refl
 
 -- a list with room for so many records
 module _ (i room : ℕ) (k : Memory) where
-  pub list_refused : (e : Refusal) → number e ≡ check_of k.head (mark_lengths k) i true → Did (list i room) k (refused (number e)) k
-  list_refused e checked = go (number e) refl
-    where
-      go : (n : ℕ) → number e ≡ n → Did (list i room) k (refused n) k
-      go zero is = absurd (not_none e is)
-      go (suc n) is = early_did (list i room) k n (sym (list_check k i room) ∙ sym checked ∙ is)
+  pub list_refused : (n : ℕ) → n ≡ check_of k.head (mark_lengths k) i true → (n ≡ 0 → ⊥) → Did (list i room) k (refused n) k
+  list_refused zero e d = absurd (d refl)
+  list_refused (suc n) e d = early_did (list i room) k n (sym (e ∙ list_check k i room))
 
   module _ (checked : ◌≡◌ {A = ℕ} 0 (check_of k.head (mark_lengths k) i true)) where
     listed : (a : Answer) → Later (sizes_of k.head) (list i room (lengths k)) a

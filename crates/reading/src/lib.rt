@@ -6,12 +6,15 @@ ghost use Rattle.std.specs.Prelude.{◌≡◌, List, ℕ, ◌<◌, ◌≤◌, le
 ghost use Rattle.machine.specs.Machine.{places};
 ghost use Rattle.memory.specs.Memory.{memory, sizes_of, place_in};
 ghost use Rattle.promise.specs.Filled.{ReadDid};
+ghost use Rattle.refusals.specs.Refusals.{refusal};
 ghost use Rattle.spans.specs.Parts.{Span, Part};
+ghost use Rattle.spans.specs.Spans.{absence_of};
 ghost use Rattle.reading.specs.Copies.{CopiedBy};
 
 use checks::{check, span_inside};
 use copying::copy;
 use lookup::look_checked;
+use machine::{Looked, RefusedAfter};
 use memory::{ANY, Head, Lengths};
 use refusals::Refusal;
 use spans::{absence, frame_at, frame_seen, page_of, part, ram_place};
@@ -51,6 +54,13 @@ fn copy_out(head: Head, space: u32, address: usize, buffer: &mut [u8], table: &[
         read_part(head, space, x, &mut buffer[done..next], table, ram);
         done = next;
     }
+}
+
+// Why the bytes of a page that was looked up can't be reached, by name alone.
+fn reason(found: Result<Looked, RefusedAfter>) -> Result<(), Refusal>
+    ensures { refusal result ≡ absence_of found }
+{
+    absence(found).map_err(|no| no.refusal)
 }
 
 // The bytes of a span into the caller's buffer: every page is looked up before the first byte is copied. A span of one page needs no loop.
@@ -100,7 +110,7 @@ pub fn read(
             cache,
         );
         let Ok(frame) = frame_seen(seen) else {
-            return absence(seen);
+            return reason(seen);
         };
         copy_frame(head, frame, address, buffer, ram);
         return Ok(());
@@ -118,7 +128,7 @@ pub fn read(
             cache,
         );
         let Ok(_) = frame_seen(found) else {
-            return absence(found);
+            return reason(found);
         };
     }
     copy_out(head, space, address, buffer, table, ram);

@@ -43,3 +43,12 @@ impl Refusal {
         self as u32
     }
 }
+
+// For a caller that knows refusals by their numbers alone.
+impl From<Refusal> for u32 {
+    ghost from_gives = { λ no n. n ≡ number no };
+
+    fn from(no: Refusal) -> u32 {
+        no.number()
+    }
+}

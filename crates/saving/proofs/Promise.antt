@@ -1,5 +1,5 @@
 -- Writing a map keeps the promise, whatever the buffers that it isn't lent.
-use Rattle.std.specs.Prelude.{◌≡◌, Bool, ℕ, ◌*◌, ◌≤◌, ◌<◌, take, drop, Result, Ok, Err}
+use Rattle.std.specs.Prelude.{◌≡◌, Bool, ℕ, ◌*◌, ◌≤◌, ◌<◌, take, drop, Result, Ok, Err, IsErrAnd}
 use Rattle.std.proofs.Math.Path.{refl, ap}
 use Rattle.std.proofs.Common.{sym, ◌∙◌, subst, true≢false, inl, inr, arith, le-leb, take_at, drop_at}
 use Rattle.std.proofs.Math.Bool.{true, false}
@@ -12,7 +12,7 @@ use Rattle.words.specs.Laws.{length_bytes}
 use Rattle.machine.specs.Machine.{State, Lent, Call, write_map, stacks_and_link, first_refusal, asked, map_file, refused, tell, map_if, accepted}
 use Rattle.machine.specs.Map.{map_words, map_of}
 use Rattle.refusals.specs.declared.Refusal.{Refusal}
-use Rattle.refusals.specs.Refusals.{refusal}
+use Rattle.refusals.specs.Refusals.{number}
 use Rattle.memory.specs.Memory.{Memory, sizes_of, lengths}
 use Rattle.promise.specs.Holds.{Holds}
 use Rattle.promise.specs.Did.{Did}
@@ -32,11 +32,11 @@ module _ (k : Memory) (file file' : List ℕ) (r : Result ℕ Refusal) where
   asks = ap (λ (o : Bool). first_refusal o true true) (sym (same_lent (sizes_of k.head) stacks_and_link (lengths k)))
 
   -- a refusal, and the buffer as it was
-  refuses : (n : ℕ) → 0 < n → NotSaved n file r file' → Did call k (refused n) k → MapDid k r file file'
-  refuses n some s d = go r s.answer
+  refuses : (n : ℕ) → NotSaved n file r file' → Did call k (refused n) k → MapDid k r file file'
+  refuses n s d = go r s.answer
     where
-      go : (r : Result ℕ Refusal) → refusal r ≡ n → MapDid k r file file'
-      go (Ok a) is = absurd (omega arith)
+      go : (r : Result ℕ Refusal) → IsErrAnd r (λ e. number e ≡ n) → MapDid k r file file'
+      go (Ok a) is = absurd is
       go (Err e) is = rw s.kept (record { did = rw is d; kept = λ _ _. refl; fits = omega arith; after_last = refl })
 
   long : (m : State) → Holds m k → 4 * length (saved_words k) ≡ length (map_of m)
@@ -79,7 +79,7 @@ module _ (k : Memory) (file file' : List ℕ) (r : Result ℕ Refusal) where
   map_did s = go (saveable k) refl (adds_up k) refl (dec_le (4 * length (saved_words k)) (length file))
     where
       go : (ok : Bool) → saveable k ≡ ok → (sums : Bool) → adds_up k ≡ sums → Dec (4 * length (saved_words k) ≤ length file) → MapDid k r file file'
-      go false ok sums a f = refuses 1 (omega arith) (s.unfit ok) (early_did call k 0 (asks ∙ ap (λ (o : Bool). first_refusal o true true) ok))
-      go true ok false a f = refuses 9 (omega arith) (s.damaged ok a) (damaged_did ok a)
+      go false ok sums a f = refuses 1 (s.unfit ok) (early_did call k 0 (asks ∙ ap (λ (o : Bool). first_refusal o true true) ok))
+      go true ok false a f = refuses 9 (s.damaged ok a) (damaged_did ok a)
       go true ok true a (yes f) = saves (s.saved ok a f) f (saved_did ok f)
-      go true ok true a (no f) = refuses 13 (omega arith) (s.short ok a (omega arith)) (short_did ok (omega arith))
+      go true ok true a (no f) = refuses 13 (s.short ok a (omega arith)) (short_did ok (omega arith))

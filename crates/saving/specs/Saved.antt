@@ -1,5 +1,5 @@
 -- What the tables of any memory tell, as the map file of document 02, W-202, has it: total, a word past a table's end is 0.
-use Rattle.std.specs.Prelude.{◌≡◌, Bool, true, false, cond, ◌&&◌, List, [], ◌∷◌, ◌++◌, ℕ, zero, suc, ◌+◌, ◌-◌, ◌*◌, ◌≤◌, ◌<◌, eqb, leb, length, drop, Result, Ok}
+use Rattle.std.specs.Prelude.{◌≡◌, Bool, true, false, cond, ◌&&◌, List, [], ◌∷◌, ◌++◌, ℕ, zero, suc, ◌+◌, ◌-◌, ◌*◌, ◌≤◌, ◌<◌, eqb, leb, length, drop, Result, Ok, IsErrAnd}
 use Rattle.sequence.specs.Lists.{tabulate}
 use Rattle.sequence.specs.Sums.{sum, sum_from}
 use Rattle.words.specs.Words.{bytes_of}
@@ -8,7 +8,7 @@ use Rattle.machine.specs.Machine.{every_buffer, places, sizes_ok, enough}
 use Rattle.machine.specs.State.{until_start}
 use Rattle.machine.specs.Map.{Entry, Block, body_words, Part, file_words}
 use Rattle.refusals.specs.declared.Refusal.{Refusal}
-use Rattle.refusals.specs.Refusals.{refusal}
+use Rattle.refusals.specs.Refusals.{number}
 use Rattle.memory.specs.Memory.{Memory, at, sizes_of}
 use Rattle.memory.specs.declared.Head.{Head}
 use Rattle.promise.specs.Did.{frames_left}
@@ -94,8 +94,8 @@ saveable k = sizes_ok (sizes_of k.head) && enough every_buffer (sizes_of k.head)
 -- ---- what a writing promises on any memory
 
 -- a refusal, and nothing stored
-pub record NotSaved (number : ℕ) (file : List ℕ) (r : Result ℕ Refusal) (file' : List ℕ) : Type 0 where
-  pub answer : refusal r ≡ number
+pub record NotSaved (n : ℕ) (file : List ℕ) (r : Result ℕ Refusal) (file' : List ℕ) : Type 0 where
+  pub answer : IsErrAnd r (λ e. number e ≡ n)
   pub kept : file' ≡ file
 
 -- these words and their number of bytes; the rest of the buffer stays

@@ -5,8 +5,7 @@ ghost use Rattle.std.specs.Prelude.{◌≡◌, true, ◌+◌, ◌-◌, ◌/◌, 
 ghost use Rattle.machine.specs.Machine.{sizes_ok, space_bytes, places, page_of_address, span_pages};
 ghost use Rattle.machine.specs.Claims.{Address};
 ghost use Rattle.memory.specs.Memory.{at, sizes_of, place_in};
-ghost use Rattle.refusals.specs.Refusals.{refusal};
-ghost use Rattle.spans.specs.Spans.{absence_of, frame_seen};
+ghost use Rattle.spans.specs.Spans.{frame_seen, Absence};
 
 use checks::{place, wide};
 use machine::{Looked, RefusedAfter};
@@ -24,11 +23,15 @@ pub fn frame_seen(found: Result<Looked, RefusedAfter>) -> Result<u32, Refusal>
     }
 }
 
-// Why the bytes of a page that was looked up can't be reached; nothing is in the way of a resident one's.
-pub fn absence(found: Result<Looked, RefusedAfter>) -> Result<(), Refusal>
-    ensures { refusal result ≡ absence_of found }
+// Why the bytes of a page that was looked up can't be reached, by name or as whatever a refusal makes; nothing is in the way of a resident one's.
+pub fn absence<R: From<Refusal>>(found: Result<Looked, R>) -> Result<(), R>
+    ensures { Absence R.from_gives found result }
 {
-    frame_seen(found).map(|_| ())
+    match found {
+        Ok(Looked::Resident(_)) => Ok(()),
+        Ok(Looked::Absent(_)) => Err(R::from(Refusal::PageAbsent)),
+        Err(no) => Err(no),
+    }
 }
 
 // The page of an address of a space.

@@ -37,12 +37,12 @@ translate_absent z x (mapped a f) n l e = absurd (omega arith)
 
 -- ---- what `frame_seen` makes of a look's answer
 
-seen_refused : (found : Result Looked RefusedAfter) (e : Refusal) → Err e ≡ frame_seen found → RefusedAs found (number e)
+pub seen_refused : (found : Result Looked RefusedAfter) (e : Refusal) → Err e ≡ frame_seen found → RefusedAs found (number e)
 seen_refused (Ok (Resident f)) e is = absurd (let z : ◌≡◌ {A = ℕ} 0 1 = cc in omega arith)
 seen_refused (Ok (Absent w)) e is = ap refusal is
 seen_refused (Err x) e is = ap refusal is
 
-seen_frame : (found : Result Looked RefusedAfter) (f : ℕ) → Ok f ≡ frame_seen found → found ≡ Ok (Resident f)
+pub seen_frame : (found : Result Looked RefusedAfter) (f : ℕ) → Ok f ≡ frame_seen found → found ≡ Ok (Resident f)
 seen_frame (Ok (Resident g)) f is = let same : f ≡ g = cc in rw same
 seen_frame (Ok (Absent w)) f is = absurd (let z : ◌≡◌ {A = ℕ} 0 1 = cc in omega arith)
 seen_frame (Err x) f is = absurd (let z : ◌≡◌ {A = ℕ} 0 1 = cc in omega arith)
@@ -104,25 +104,21 @@ module _ (i x : ℕ) (k : Memory) where
       pub frame_below : (f : ℕ) → found ≡ Ok (Resident f) → f < z.frames
       frame_below f e = (subst (λ (r : Result Looked RefusedAfter). Later z (look i (x / z.page) (lengths k)) (looked_says r)) e later).1
 
-      pub translate_refused : (e : Refusal) → Err e ≡ frame_seen found → Did (translate i x) k (refused (number e)) k
+      pub translate_refused : (n : ℕ) → RefusedAs found n → Did (translate i x) k (refused n) k
       unfolding accepted
-      translate_refused e seen =
-          let is = seen_refused found e seen in
-          let given = refused_later z i (x / z.page) (lengths k) found (number e) is later in
-          told_did (translate i x) k (refused (number e)) translate_passes (given, refl) (tt, tt)
-          (λ m h. ap (tell m) (translate_absent m.sizes x (page_of m (page_of_address m.sizes i x)) (number e)
-          (from_four _ _ _ (number e) (omega arith) (omega arith) (omega arith) given) (refused_is m _ found (number e) is (honest m h)).0))
+      translate_refused n e =
+          let given = refused_later z i (x / z.page) (lengths k) found n e later in
+          told_did (translate i x) k (refused n) translate_passes (given, refl) (tt, tt)
+          (λ m h. ap (tell m) (translate_absent m.sizes x (page_of m (page_of_address m.sizes i x)) n
+          (from_four _ _ _ n (omega arith) (omega arith) (omega arith) given) (refused_is m _ found n e (honest m h)).0))
 
-      pub translate_at : (f q : ℕ) → Ok f ≡ frame_seen found → q ≡ f * z.page + x % z.page → Did (translate i x) k (at q) k
+      pub translate_at : (f q : ℕ) → found ≡ Ok (Resident f) → q ≡ f * z.page + x % z.page → Did (translate i x) k (at q) k
       unfolding accepted
-      translate_at f q seen p =
+      translate_at f q e p =
           told_did (translate i x) k (at q) translate_passes (refl, place_low) (tt, tt)
           (λ m h.
-          ap (λ g. tell m (translate_page m.sizes x g)) (residence m _ f (subst (Found m _) is (honest m h))).is
+          ap (λ g. tell m (translate_page m.sizes x g)) (residence m _ f (subst (Found m _) e (honest m h))).is
           ∙ ap (λ (o : ℕ). tell m (at o)) (sym (p ∙ ap (λ (z : Sizes). f * z.page + x % z.page) h.sizes_are)))
         where
-          is : found ≡ Ok (Resident f)
-          is = seen_frame found f seen
-
           place_low : q < z.frames * z.page
-          place_low = omega (arith, mul-le-mul_right z.page (frame_below f is), mod-lt x (some_bytes z (fit z pre.sizes_ok_lem)))
+          place_low = omega (arith, mul-le-mul_right z.page (frame_below f e), mod-lt x (some_bytes z (fit z pre.sizes_ok_lem)))

@@ -103,7 +103,7 @@ pub returns-in_default : goal.returns-in_default
 returns-in_default c = λ link.
     read_stopped _ _ (lent (goal.at.returns-in_default c).After-span_inside link) _ _ (checked (goal.at.returns-in_default c).In_ok-check link) refl
     _ _ c.page_of-first.ensures c.pages-pages.ensures _ (omega arith) (omega (arith, c.if-pages-eq1.true)) (resident_none _ _ _)
-    c.look_checked-seen.result (c.look_checked-seen.ensures link _) _ (rw c.absence.ensures (seen_refused _ c.in_default.ensures))
+    c.look_checked-seen.result (c.look_checked-seen.ensures link _) _ (rw c.reason.ensures (seen_refused _ c.in_default.ensures))
 
 pub copy_frame-requires : goal.copy_frame-requires
 copy_frame-requires c = (
@@ -141,7 +141,7 @@ pub returns-in_default-frame_seen : goal.returns-in_default-frame_seen
 returns-in_default-frame_seen c = λ link.
     read_stopped _ _ (lent (goal.at.returns-in_default-frame_seen c).After-span_inside link) _ _ (checked (goal.at.returns-in_default-frame_seen c).In_ok-check link) refl
     _ _ c.page_of-first.ensures c.pages-pages.ensures _ c.loop-page.auto.page (omega (arith, c.loop-page-test.true)) (c.loop-page.invariant link)
-    c.look_checked-found.result (c.look_checked-found.ensures link _) _ (rw c.absence-in_default-frame_seen.ensures (seen_refused _ c.in_default-frame_seen.ensures))
+    c.look_checked-found.result (c.look_checked-found.ensures link _) _ (rw c.reason-in_default-frame_seen.ensures (seen_refused _ c.in_default-frame_seen.ensures))
 
 pub loop-page-preserved : goal.loop-page-preserved
 loop-page-preserved c =

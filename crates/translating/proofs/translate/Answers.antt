@@ -7,7 +7,7 @@ use Rattle.machine.proofs.Laws.Sizes.{fit}
 use Rattle.memory.specs.Memory.{Memory, memory, sizes_of}
 use Rattle.laws.specs.Models.{check_of}
 use Rattle.translating.specs.Ready.{Translatable}
-use Rattle.translating.specs.Translating.{translate_early, check_passed, page_inside_lem, translate_refused, translate_at}
+use Rattle.translating.specs.Translating.{seen_refused, seen_frame, translate_early, check_passed, page_inside_lem, translate_refused, translate_at}
 use Rattle.translating.proofs.translate.Goals as goal
 use Rattle.translating.proofs.translate.Goals.{After-address_inside, In_ok-check}
 
@@ -59,7 +59,7 @@ returns-in_err-frame c =
     λ link ram.
     rw (p.1, p.2)
     (translate_refused _ _ (lent (goal.at.returns-in_err-frame c).After-address_inside link ram) (ready s) _ c.page_of-page.ensures
-    c.look_checked-found.result (c.look_checked-found.ensures link ram) _ c.in_err-frame.ensures)
+    c.look_checked-found.result (c.look_checked-found.ensures link ram) _ (seen_refused _ _ c.in_err-frame.ensures))
 
 pub ram_place-requires : goal.ram_place-requires
 ram_place-requires c = (ready (goal.at.ram_place-requires c).In_ok-check).sizes_ok_lem
@@ -69,4 +69,4 @@ returns c =
     let s = (goal.at.returns c).In_ok-check in
     λ link ram.
     translate_at _ _ (lent (goal.at.returns c).After-address_inside link ram) (ready s) _ c.page_of-page.ensures c.look_checked-found.result
-    (c.look_checked-found.ensures link ram) _ _ c.in_ok-frame.ensures c.ram_place.ensures
+    (c.look_checked-found.ensures link ram) _ _ (seen_frame _ _ c.in_ok-frame.ensures) c.ram_place.ensures
